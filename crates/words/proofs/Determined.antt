@@ -1,0 +1,60 @@
+-- For each public call: two results that its promise allows are equal, the answer and the later content of what was lent.
+use mathlib.Core.Path.{_≡_}
+use denote.Ref.{now}
+use Rattle.words.specs.LawsPromise.{determined}
+use Rattle.words.proofs.address.double.Reads as double
+use Rattle.words.proofs.address.halve.Reads as halve
+use Rattle.words.proofs.address.entry_of.Reads as entry-of
+use Rattle.words.proofs.address.address_of.Reads as address-of
+use Rattle.words.proofs.hex.digit.Reads as digit
+use Rattle.words.proofs.hex.capital.Reads as capital
+use Rattle.words.proofs.hex.byte.Reads as byte
+use Rattle.words.proofs.hex.word.Reads as word
+use Rattle.words.proofs.hex.capital_byte.Reads as capital-byte
+use Rattle.words.proofs.hex.capital_word.Reads as capital-word
+use Rattle.words.proofs.hex.put.Reads as put
+use Rattle.words.proofs.hex.put_byte.Reads as put-byte
+use Rattle.words.proofs.hex.put_word.Reads as put-word
+use Rattle.words.proofs.decimal.read.Reads as read
+
+pub double-determined : (κs : _) (a : _) (r s : _) (x y : _) → double.Post κs a r x → double.Post κs a s y → r ≡ s
+double-determined κs a r s x y p q = determined p q
+
+pub halve-determined : (κs : _) (a : _) (r s : _) (x y : _) → halve.Post κs a r x → halve.Post κs a s y → r ≡ s
+halve-determined κs a r s x y p q = determined p q
+
+pub entry-of-determined : (κs : _) (a : _) (r s : _) (x y : _) → entry-of.Post κs a r x → entry-of.Post κs a s y → r ≡ s
+entry-of-determined κs a r s x y p q = determined p q
+
+pub address-of-determined : (κs : _) (a : _) (r s : _) (x y : _) → address-of.Post κs a r x → address-of.Post κs a s y → r ≡ s
+address-of-determined κs a r s x y p q = determined p q
+
+pub digit-determined : (κs : _) (a : _) (r s : _) (x y : _) → digit.Post κs a r x → digit.Post κs a s y → r ≡ s
+digit-determined κs a r s x y p q = determined p q
+
+pub capital-determined : (κs : _) (a : _) (r s : _) (x y : _) → capital.Post κs a r x → capital.Post κs a s y → r ≡ s
+capital-determined κs a r s x y p q = determined p q
+
+pub byte-determined : (κs : _) (a : _) (r s : _) (x y : _) → byte.Post κs a r x → byte.Post κs a s y → r ≡ s
+byte-determined κs a r s x y p q = determined p q
+
+pub word-determined : (κs : _) (a : _) (r s : _) (x y : _) → word.Post κs a r x → word.Post κs a s y → r ≡ s
+word-determined κs a r s x y p q = determined p q
+
+pub capital-byte-determined : (κs : _) (a : _) (r s : _) (x y : _) → capital-byte.Post κs a r x → capital-byte.Post κs a s y → r ≡ s
+capital-byte-determined κs a r s x y p q = determined p q
+
+pub capital-word-determined : (κs : _) (a : _) (r s : _) (x y : _) → capital-word.Post κs a r x → capital-word.Post κs a s y → r ≡ s
+capital-word-determined κs a r s x y p q = determined p q
+
+pub read-determined : (κs : _) (a : _) (r s : _) (x y : _) → read.Post κs a r x → read.Post κs a s y → r ≡ s
+read-determined κs a r s x y p q = determined p q
+
+pub put-determined : (κs : _) (a : _) (r s : _) (x y : _) → put.Post κs a r x → put.Post κs a s y → now (x .0) ≡ now (y .0)
+put-determined κs a r s x y p q = determined p q
+
+pub put-byte-determined : (κs : _) (a : _) (r s : _) (x y : _) → put-byte.Post κs a r x → put-byte.Post κs a s y → now (x .0) ≡ now (y .0)
+put-byte-determined κs a r s x y p q = determined p q
+
+pub put-word-determined : (κs : _) (a : _) (r s : _) (x y : _) → put-word.Post κs a r x → put-word.Post κs a s y → now (x .0) ≡ now (y .0)
+put-word-determined κs a r s x y p q = determined p q

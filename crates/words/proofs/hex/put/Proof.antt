@@ -1,0 +1,23 @@
+-- Past the end nothing is stored.
+use mathlib.Core.Path.{sym}
+use lib.Seq.{set-out}
+use borrow.Author.Needs.{needs}
+use Rattle.words.proofs.hex.put.Statement.{statement}
+use Rattle.words.proofs.hex.put.Tie as tie
+use Rattle.words.proofs.hex.put.Reads as reads
+use Rattle.words.proofs.hex.put.Lts as lts
+
+slice-write-out : tie.Need-slice-write-out
+slice-write-out c = search needs
+
+same-length : tie.Need-same-length
+same-length c = search needs
+
+returns : tie.Need-returns
+returns c = search needs
+
+returns-2 : tie.Need-returns-2
+returns-2 c = sym (set-out _ _ _ (c .if1 .left))
+
+pub put-spec : {M : Type 1} → statement M
+put-spec = tie.close (tie.spec slice-write-out same-length returns returns-2)

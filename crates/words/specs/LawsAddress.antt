@@ -1,0 +1,173 @@
+-- Laws of the map between word addresses and entries, of doubling and halving, and of the counter's successor.
+use Prim.Native.Nat.{ℕ, suc, _+_, _-_, _*_, _/_, _%_, _≤_, _<_}
+use native.Mathlib.Omega.{arith}
+use native.Mathlib.Decide.{decLt, ℕ-discrete}
+use mathlib.Core.Path.{_≡_, refl, sym, ap, _∙_}
+use mathlib.Core.Bool.{Bool, true, false}
+use lib.Dec.{ltb, eqb}
+use borrow.Author.Tests.{lt-ltb, le-ltb, eq-eqb, ne-eqb}
+use Rattle.words.specs.Choice.{pick}
+use Rattle.words.specs.LawsChoice.{pick-true, pick-false}
+use Rattle.words.specs.Address.{placed, doubled, halved, entryOf, addressOf, placeOf, successor}
+use Rattle.words.specs.declared.WordAddress.{WordAddress}
+use Rattle.words.specs.declared.ByteAddress.{ByteAddress}
+use Rattle.words.specs.declared.Place.{Place}
+use Rattle.words.specs.declared.Place.the-variants.{At, Nowhere}
+
+-- ---- doubling and halving
+
+pub placed-at : (n : ℕ) → n < 0x10000 → placed n ≡ At (record { 0 = n })
+unfolding placed pick
+placed-at n h = rw (lt-ltb n 0x10000 h)
+
+pub placed-nowhere : (n : ℕ) → 0x10000 ≤ n → placed n ≡ Nowhere
+unfolding placed pick
+placed-nowhere n h = rw (le-ltb n 0x10000 h)
+
+-- a word's own byte address leads back to it
+pub halved-doubled : (a : WordAddress) → a .0 < 0x10000 → halved (doubled a) ≡ At a
+unfolding halved doubled pick
+halved-doubled a h =
+    let half : 2 * a .0 / 2 ≡ a .0 = omega arith in
+    let even : 2 * a .0 % 2 ≡ 0 = omega arith in
+    rw (eq-eqb (2 * a .0 % 2) 0 even, half) (placed-at (a .0) h)
+
+pub halved-odd : (b : ByteAddress) → (b .0 % 2 ≡ 0 → ⊥) → halved b ≡ Nowhere
+unfolding halved pick
+halved-odd b h = rw (ne-eqb (b .0 % 2) 0 h)
+
+pub halved-far : (b : ByteAddress) → 0x20000 ≤ b .0 → halved b ≡ Nowhere
+unfolding halved pick
+halved-far b h = by (ℕ-discrete (b .0 % 2) 0)
+  where
+    by : Dec (b .0 % 2 ≡ 0) → pick (eqb (b .0 % 2) 0) (placed (b .0 / 2)) Nowhere ≡ Nowhere
+    by (yes e) = rw (eq-eqb (b .0 % 2) 0 e) (placed-nowhere (b .0 / 2) (omega arith))
+    by (no e) = rw (ne-eqb (b .0 % 2) 0 e)
+
+-- the other way: a byte address that halves to a word is that word's
+pub halved-even : (b : ByteAddress) → b .0 % 2 ≡ 0 → halved b ≡ placed (b .0 / 2)
+unfolding halved pick
+halved-even b e = rw (eq-eqb (b .0 % 2) 0 e)
+
+-- ---- entries
+
+module _ (base words tail a : ℕ) where
+  pub entry-program : a < words → entryOf base words tail a ≡ a
+  unfolding entryOf pick
+  entry-program h = rw (lt-ltb a words h)
+
+  pub entry-between : words ≤ a → a < base → entryOf base words tail a ≡ words + tail
+  unfolding entryOf pick
+  entry-between h k = rw (le-ltb a words h, lt-ltb a base k)
+
+  pub entry-config : words ≤ a → base ≤ a → a - base < tail → entryOf base words tail a ≡ words + (a - base)
+  unfolding entryOf pick
+  entry-config h k t = rw (le-ltb a words h, le-ltb a base k, lt-ltb (a - base) tail t)
+
+  pub entry-beyond : words ≤ a → base ≤ a → tail ≤ a - base → entryOf base words tail a ≡ words + tail
+  unfolding entryOf pick
+  entry-beyond h k t = rw (le-ltb a words h, le-ltb a base k, le-ltb (a - base) tail t)
+
+-- the three kinds of address, told apart once
+pub record Entry (base words tail a e : ℕ) : Type 0 where
+  pub within : e ≤ words + tail
+  pub back : e < words + tail → addressOf base words e ≡ a
+
+module _ (base words i : ℕ) where
+  pub address-program : i < words → addressOf base words i ≡ i
+  unfolding addressOf pick
+  address-program h = rw (lt-ltb i words h)
+
+  pub address-config : words ≤ i → addressOf base words i ≡ base + (i - words)
+  unfolding addressOf pick
+  address-config h = rw (le-ltb i words h)
+
+-- what an address's entry tells: it is at most one past the last, and before that it leads back to the address
+pub entry : (base words tail a : ℕ) → words ≤ base → Entry base words tail a (entryOf base words tail a)
+entry base words tail a low = by (decLt a words) (decLt a base) (decLt (a - base) tail)
+  where
+    by : Dec (a < words) → Dec (a < base) → Dec (a - base < tail) → Entry base words tail a (entryOf base words tail a)
+    by (yes p) q r = rw (entry-program base words tail a p) (record { within = omega arith; back = λ h. address-program base words a p })
+    by (no p) (yes q) r =
+        rw (entry-between base words tail a (omega arith) q) (record { within = omega arith; back = λ h. absurd (omega arith) })
+    by (no p) (no q) (yes r) =
+        rw (entry-config base words tail a (omega arith) (omega arith) r)
+        (record { within = omega arith; back = λ h. address-config base words (words + (a - base)) (omega arith) ∙ omega arith })
+    by (no p) (no q) (no r) =
+        rw (entry-beyond base words tail a (omega arith) (omega arith) (omega arith)) (record { within = omega arith; back = λ h. absurd (omega arith) })
+
+pub address-of-entry : (base words tail a : ℕ) → words ≤ base → entryOf base words tail a < words + tail → addressOf base words (entryOf base words tail a) ≡ a
+address-of-entry base words tail a low h = entry base words tail a low .back h
+
+pub entry-of-address : (base words tail i : ℕ) → words ≤ base → i < words + tail → entryOf base words tail (addressOf base words i) ≡ i
+entry-of-address base words tail i low h = by (decLt i words)
+  where
+    by : Dec (i < words) → entryOf base words tail (addressOf base words i) ≡ i
+    by (yes p) = rw (address-program base words i p) (entry-program base words tail i p)
+    by (no p) =
+        rw (address-config base words i (omega arith))
+        (entry-config base words tail (base + (i - words)) (omega arith) (omega arith) (omega arith) ∙ omega arith)
+
+-- two addresses with one entry are equal
+pub entry-injective : (base words tail a b : ℕ) → words ≤ base → entryOf base words tail a < words + tail → entryOf base words tail a ≡ entryOf base words tail b → a ≡ b
+entry-injective base words tail a b low h e =
+    sym (address-of-entry base words tail a low h)
+    ∙ (ap (addressOf base words) e ∙ address-of-entry base words tail b low (rw (← e) h))
+
+-- an entry's place is its address, where 16 bits hold the last of them
+pub place-of : (base words tail i : ℕ) → words ≤ base → base + tail ≤ 0x10000 → i < words + tail → placeOf base words tail i ≡ At (record { 0 = addressOf base words i })
+unfolding placeOf pick
+place-of base words tail i low fits h = rw (lt-ltb i (words + tail) h) (placed-at (addressOf base words i) (by (decLt i words)))
+  where
+    by : Dec (i < words) → addressOf base words i < 0x10000
+    by (yes p) = rw (address-program base words i p) (omega arith)
+    by (no p) = rw (address-config base words i (omega arith)) (omega arith)
+
+-- ---- the counter's successor
+
+module _ (base a : ℕ) where
+  pub successor-program : a + 1 < base → successor base a ≡ a + 1
+  unfolding successor pick
+  successor-program h = rw (ne-eqb a (base - 1) (λ e. omega arith), ne-eqb a (2 * base - 1) (λ e. omega arith))
+
+  pub successor-config : base ≤ a → a + 1 < 2 * base → successor base a ≡ a + 1
+  unfolding successor pick
+  successor-config p h = rw (ne-eqb a (base - 1) (λ e. omega arith), ne-eqb a (2 * base - 1) (λ e. omega arith))
+
+  pub successor-wraps : a ≡ base - 1 → successor base a ≡ 0
+  unfolding successor pick
+  successor-wraps e = rw (eq-eqb a (base - 1) e)
+
+  pub successor-config-wraps : 0 < base → a ≡ 2 * base - 1 → successor base a ≡ base
+  unfolding successor pick
+  successor-config-wraps p e = rw (ne-eqb a (base - 1) (λ q. omega arith), eq-eqb a (2 * base - 1) e)
+
+  -- the counter never leaves the two spaces
+  pub successor-lt : 0 < base → a < 2 * base → successor base a < 2 * base
+  unfolding successor pick
+  successor-lt p h = by (ℕ-discrete a (base - 1)) (ℕ-discrete a (2 * base - 1))
+    where
+      by : Dec (a ≡ base - 1) → Dec (a ≡ 2 * base - 1) → successor base a < 2 * base
+      by (yes e) q = rw (eq-eqb a (base - 1) e) (omega arith)
+      by (no n) (yes e) = rw (ne-eqb a (base - 1) n, eq-eqb a (2 * base - 1) e) (omega arith)
+      by (no n) (no m) = rw (ne-eqb a (base - 1) n, ne-eqb a (2 * base - 1) m) (omega arith)
+
+-- within a space the successor has the next entry
+pub entry-next : (base words tail a : ℕ) → words ≤ base → tail ≤ base → entryOf base words tail a + 1 < words + tail → (entryOf base words tail a + 1 ≡ words → ⊥) → entryOf base words tail (successor base a) ≡ entryOf base words tail a + 1
+entry-next base words tail a low long h ne = by (decLt a words) (decLt a base) (decLt (a - base) tail)
+  where
+    by : Dec (a < words) → Dec (a < base) → Dec (a - base < tail) → entryOf base words tail (successor base a) ≡ entryOf base words tail a + 1
+    by (yes p) q r =
+        let here : entryOf base words tail a ≡ a = entry-program base words tail a p in
+        let next : a + 1 < words = lib.Arith.lt-of-le-ne (omega arith) (λ e. ne (ap (λ n. n + 1) here ∙ e)) in
+        rw (successor-program base a (omega arith), here) (entry-program base words tail (a + 1) next)
+    by (no p) (yes q) r =
+        let here : entryOf base words tail a ≡ words + tail = entry-between base words tail a (omega arith) q in
+        absurd (omega arith)
+    by (no p) (no q) (yes r) =
+        let here : entryOf base words tail a ≡ words + (a - base) = entry-config base words tail a (omega arith) (omega arith) r in
+        rw (successor-config base a (omega arith) (omega arith), here)
+        (entry-config base words tail (a + 1) (omega arith) (omega arith) (omega arith) ∙ omega arith)
+    by (no p) (no q) (no r) =
+        let here : entryOf base words tail a ≡ words + tail = entry-beyond base words tail a (omega arith) (omega arith) (omega arith) in
+        absurd (omega arith)

@@ -1,0 +1,211 @@
+-- Laws of 14-bit words, stated over the width where it has no say: AND, containment, and words between an old and a new one.
+use Prim.Native.Nat.{ℕ, zero, suc, _+_, _-_, _*_, _/_, _%_, _^_, _≤_, _<_, min}
+use native.Mathlib.Nat.{mod-eq-of-lt, mod-lt, div-one, div-div-eq-div-mul, div-eq-of-lt, pow-succ', pow-zero, pow-suc, mul-comm, min-le-left, min-le-right, min-eq-right, le-antisymm, le-trans, zero-div, zero-mod, sub-add-cancel, div-lt-iff-lt-mul, zero-add, add-zero}
+use native.Mathlib.Numerals.{add-one}
+use native.Mathlib.Omega.{arith}
+use native.Mathlib.Decide.{decLt}
+use mathlib.Core.Path.{_≡_, refl, sym, ap, subst, _∙_}
+use mathlib.Core.Logic.{_⊎_, inl, inr, ⊎-elim}
+use mathlib.Core.Bool.{Bool, true, false}
+use lib.Dec.{ltb}
+use lib.Pow.{pow-pos, pow-add, shr-shr}
+use lib.Bits.{bitAnd, and-step, and-comm, and-mask, and-self, and-lt, and-le-r, and-shr}
+use borrow.Author.Tests.{ltb-true, ltb-false, lt-ltb, le-ltb}
+use Rattle.words.specs.Word.{erased, notGiven, isWord, bit, Between, Contains}
+
+-- ---- what 14 bits hold
+
+pub is-word : (w : ℕ) → w < 0x4000 → isWord w ≡ true
+unfolding isWord
+is-word w h = lt-ltb w 0x4000 h
+
+pub not-word : (w : ℕ) → 0x4000 ≤ w → isWord w ≡ false
+unfolding isWord
+not-word w h = le-ltb w 0x4000 h
+
+pub word-lt : (w : ℕ) → isWord w ≡ true → w < 0x4000
+unfolding isWord
+word-lt w e = ltb-true w 0x4000 e
+
+pub word-ge : (w : ℕ) → isWord w ≡ false → 0x4000 ≤ w
+unfolding isWord
+word-ge w e = ltb-false w 0x4000 e
+
+-- ---- AND
+
+-- an erased word takes what is written over it
+pub and-erased : (x : ℕ) → x < 0x4000 → bitAnd erased x ≡ x
+and-erased x h = and-comm erased x ∙ (and-mask x 14 ∙ mod-eq-of-lt h)
+
+-- over the width: a word of k ones takes each word of k bits
+pub and-ones : (k x : ℕ) → x < 2 ^ k → bitAnd (2 ^ k - 1) x ≡ x
+and-ones k x h = and-comm (2 ^ k - 1) x ∙ (and-mask x k ∙ mod-eq-of-lt h)
+
+pub and-word : (x y : ℕ) → x < 0x4000 → y < 0x4000 → bitAnd x y < 0x4000
+and-word x y p q = and-lt 14 x y p q
+
+-- ---- single bits
+
+pub bit-lt : (w i : ℕ) → bit w i < 2
+unfolding bit
+bit-lt w i = omega arith
+
+pub bit-zero : (w : ℕ) → bit w 0 ≡ w % 2
+unfolding bit
+bit-zero w = rw div-one
+
+pub bit-suc : (w i : ℕ) → bit w (suc i) ≡ bit (w / 2) i
+unfolding bit
+bit-suc w i = ap (λ n. n % 2) (ap (λ n. w / n) (pow-succ' 2 i) ∙ sym (div-div-eq-div-mul w 2 (2 ^ i)))
+
+pub bit-of-zero : (i : ℕ) → bit 0 i ≡ 0
+unfolding bit
+bit-of-zero i = rw (zero-div, zero-mod)
+
+-- a number of k bits has no bit at k or above
+pub bit-high : (k w i : ℕ) → w < 2 ^ k → k ≤ i → bit w i ≡ 0
+unfolding bit
+bit-high k w i h p =
+    let wide : w < 2 ^ i = native.Mathlib.Nat.lt-of-lt-of-le h (lib.Pow.pow-mono p) in
+    rw (div-eq-of-lt wide)
+
+min-two : (x y : ℕ) → x < 2 → min x y % 2 ≡ min x y
+min-two x y p = mod-eq-of-lt (native.Mathlib.Nat.lt-of-le-of-lt (min-le-left x y) p)
+
+pub bit-and : (a b i : ℕ) → bit (bitAnd a b) i ≡ min (bit a i) (bit b i)
+unfolding bit
+bit-and a b i = rw (and-shr a b i) (low (a / 2 ^ i) (b / 2 ^ i))
+  where
+    low : (x y : ℕ) → bitAnd x y % 2 ≡ min (x % 2) (y % 2)
+    low x y =
+        let m : ℕ = min (x % 2) (y % 2) in
+        let small : m < 2 = native.Mathlib.Nat.lt-of-le-of-lt (min-le-left (x % 2) (y % 2)) (omega arith) in
+        let whole : bitAnd x y ≡ bitAnd (x / 2) (y / 2) * 2 + m = and-step x y in
+        omega arith
+
+-- numbers with the same bits are the same number
+same-below : (k a b : ℕ) → a < 2 ^ k → b < 2 ^ k → ((i : ℕ) → bit a i ≡ bit b i) → a ≡ b
+same-below zero a b p q h =
+    let a0 : a < 1 = p in
+    let b0 : b < 1 = q in
+    omega arith
+same-below (suc k) a b p q h =
+    let pa : a < 2 * 2 ^ k = rw pow-succ' at p in
+    let pb : b < 2 * 2 ^ k = rw pow-succ' at q in
+    let halves : a / 2 ≡ b / 2 = same-below k (a / 2) (b / 2) (omega arith) (omega arith) (λ i. sym (bit-suc a i) ∙ (h (suc i) ∙ bit-suc b i)) in
+    let lows : a % 2 ≡ b % 2 = sym (bit-zero a) ∙ (h 0 ∙ bit-zero b) in
+    omega arith
+
+below-pow : (n : ℕ) → n < 2 ^ n
+below-pow zero = omega arith
+below-pow (suc n) =
+    let ih : n < 2 ^ n = below-pow n in
+    rw pow-succ' (omega arith)
+
+pub same-bits : (a b : ℕ) → ((i : ℕ) → bit a i ≡ bit b i) → a ≡ b
+same-bits a b h =
+    same-below (a + b) a b
+    (native.Mathlib.Nat.lt-of-lt-of-le (below-pow a) (lib.Pow.pow-mono (omega arith)))
+    (native.Mathlib.Nat.lt-of-lt-of-le (below-pow b) (lib.Pow.pow-mono (omega arith))) h
+
+-- a number with no bit at k or above has k bits
+pub high-bits : (k w : ℕ) → ((i : ℕ) → k ≤ i → bit w i ≡ 0) → w < 2 ^ k
+unfolding bit
+high-bits k w h = rw one-mul-pow at (div-lt-iff-lt-mul (pow-pos k) .0 one)
+  where
+    none : w / 2 ^ k ≡ 0
+    none = same-bits (w / 2 ^ k) 0 (λ i. ap (λ n. n % 2) (shr-shr w k i) ∙ (h (k + i) (omega arith) ∙ sym (bit-of-zero i)))
+
+    one : w / 2 ^ k < 1
+    one = rw none (omega arith)
+
+    one-mul-pow : 1 * 2 ^ k ≡ 2 ^ k
+    one-mul-pow = native.Mathlib.Nat.one-mul (2 ^ k)
+
+-- ---- containment
+
+pub contains-bits : (w x : ℕ) → Contains w x → (i : ℕ) → bit x i ≤ bit w i
+unfolding Contains
+contains-bits w x c i =
+    let e : bit x i ≡ min (bit w i) (bit x i) = ap (λ n. bit n i) (sym c) ∙ bit-and w x i in
+    rw e (min-le-left (bit w i) (bit x i))
+
+pub bits-contain : (w x : ℕ) → ((i : ℕ) → bit x i ≤ bit w i) → Contains w x
+unfolding Contains
+bits-contain w x h = same-bits (bitAnd w x) x (λ i. bit-and w x i ∙ min-eq-right (h i))
+
+pub contains-self : (x : ℕ) → Contains x x
+unfolding Contains
+contains-self x = and-self x
+
+pub erased-contains : (x : ℕ) → x < 0x4000 → Contains erased x
+unfolding Contains
+erased-contains x h = and-erased x h
+
+-- a write over a word that contains it gives the word written
+pub write-over : (w x : ℕ) → Contains w x → bitAnd w x ≡ x
+unfolding Contains
+write-over w x c = c
+
+-- ---- between an old word and a new one
+
+pub between-old : (old new : ℕ) → Between old new old
+unfolding Between
+between-old old new i = inl refl
+
+pub between-new : (old new : ℕ) → Between old new new
+unfolding Between
+between-new old new i = inr refl
+
+-- a word that does not change cannot be torn
+pub between-same : (x w : ℕ) → Between x x w → w ≡ x
+unfolding Between
+between-same x w b = same-bits w x (λ i. ⊎-elim (λ e. e) (λ e. e) (b i))
+
+-- over the width: a torn word fits where both words fit
+pub between-lt : (k old new w : ℕ) → old < 2 ^ k → new < 2 ^ k → Between old new w → w < 2 ^ k
+unfolding Between
+between-lt k old new w p q b =
+    high-bits k w (λ i h. ⊎-elim (λ e. e ∙ bit-high k old i p h) (λ e. e ∙ bit-high k new i q h) (b i))
+
+-- a torn word keeps what both words contain
+pub between-contains : (old new w x : ℕ) → Contains old x → Contains new x → Between old new w → Contains w x
+unfolding Between
+between-contains old new w x p q b =
+    bits-contain w x
+    (λ i. ⊎-elim
+    (λ e. rw e (contains-bits old x p i))
+    (λ e. rw e (contains-bits new x q i))
+    (b i))
+
+-- ---- halves and bytes
+
+-- a load's payload is the word times two
+pub half-double : (w : ℕ) → 2 * w / 2 ≡ w
+half-double w = omega arith
+
+pub double-even : (w : ℕ) → 2 * w % 2 ≡ 0
+double-even w = omega arith
+
+pub double-half : (p : ℕ) → p % 2 ≡ 0 → 2 * (p / 2) ≡ p
+double-half p h = omega arith
+
+-- the two bytes of a number
+pub low-high : (n : ℕ) → 256 * (n / 256) + n % 256 ≡ n
+low-high n = omega arith
+
+pub low-byte : (high low : ℕ) → low < 256 → (256 * high + low) % 256 ≡ low
+low-byte high low h = omega arith
+
+pub high-byte : (high low : ℕ) → low < 256 → (256 * high + low) / 256 ≡ high
+high-byte high low h = omega arith
+
+-- ---- bit 7
+
+pub bit-seven : (w : ℕ) → bit w 7 ≡ w / 128 % 2
+unfolding bit
+bit-seven w = refl
+
+pub erased-bit-seven : bit erased 7 ≡ 1
+unfolding bit
+erased-bit-seven = refl

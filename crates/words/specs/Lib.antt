@@ -1,0 +1,14 @@
+-- The definitions that every crate stands on, and their laws in the modules whose names begin with Laws.
+pub mod Choice
+pub mod Word
+pub mod Address
+pub mod Hex
+pub mod Decimal
+pub mod Lists
+pub mod LawsPromise
+pub mod LawsChoice
+pub mod LawsWord
+pub mod LawsAddress
+pub mod LawsHex
+pub mod LawsDecimal
+pub mod LawsLists

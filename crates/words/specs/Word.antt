@@ -1,0 +1,31 @@
+-- Words of the target ('Memory of the target'): 14 bits; and what 'each bit is the old one or the new one' means for a cut.
+use Prim.Native.Nat.{ℕ, _/_, _%_, _^_}
+use mathlib.Core.Path.{_≡_}
+use mathlib.Core.Bool.{Bool}
+use mathlib.Core.Logic.{_⊎_}
+use lib.Dec.{ltb}
+use lib.Bits.{bitAnd}
+
+-- an erased word: every bit is 1
+abbrev pub erased : ℕ
+erased = 0x3fff
+
+-- what an image holds where the file gives no word
+abbrev pub notGiven : ℕ
+notGiven = 0xffff
+
+-- a number that 14 bits hold
+unfoldable pub isWord : ℕ → Bool
+isWord w = ltb w 0x4000
+
+-- bit i of a word, bit 0 the lowest
+unfoldable pub bit : ℕ → ℕ → ℕ
+bit w i = w / 2 ^ i % 2
+
+-- each bit of w is the old word's or the new word's
+unfoldable pub Between : ℕ → ℕ → ℕ → Type 0
+Between old new w = (i : ℕ) → (bit w i ≡ bit old i) ⊎ (bit w i ≡ bit new i)
+
+-- w has every bit that x has, so that a write of x over w gives x
+unfoldable pub Contains : ℕ → ℕ → Type 0
+Contains w x = bitAnd w x ≡ x
