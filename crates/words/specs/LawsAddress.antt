@@ -1,17 +1,14 @@
 -- Laws of the map between word addresses and entries, of doubling and halving, and of the counter's successor.
-use Prim.Native.Nat.{ℕ, suc, _+_, _-_, _*_, _/_, _%_, _≤_, _<_}
+use Prim.Native.Nat.{ℕ, _+_, _-_, _*_, _/_, _%_, _≤_, _<_}
 use native.Mathlib.Omega.{arith}
 use native.Mathlib.Decide.{decLt, ℕ-discrete}
-use mathlib.Core.Path.{_≡_, refl, sym, ap, _∙_}
-use mathlib.Core.Bool.{Bool, true, false}
-use lib.Dec.{ltb, eqb}
+use mathlib.Core.Path.{_≡_, sym, ap, _∙_}
+use lib.Dec.{eqb}
 use borrow.Author.Tests.{lt-ltb, le-ltb, eq-eqb, ne-eqb}
 use Rattle.words.specs.Choice.{pick}
-use Rattle.words.specs.LawsChoice.{pick-true, pick-false}
 use Rattle.words.specs.Address.{placed, doubled, halved, entryOf, addressOf, placeOf, successor}
 use Rattle.words.specs.declared.WordAddress.{WordAddress}
 use Rattle.words.specs.declared.ByteAddress.{ByteAddress}
-use Rattle.words.specs.declared.Place.{Place}
 use Rattle.words.specs.declared.Place.the-variants.{At, Nowhere}
 
 -- ---- doubling and halving

@@ -1,8 +1,7 @@
 -- Laws of a choice by a test, and of tests joined by 'and'.
-use Prim.Native.Nat.{ℕ, _<_, _≤_}
 use mathlib.Core.Path.{_≡_, refl, sym, _∙_}
 use mathlib.Core.Logic.{_⊎_, inl, inr}
-use mathlib.Core.Bool.{Bool, true, false, not, _&&_}
+use mathlib.Core.Bool.{Bool, true, false, _&&_}
 use borrow.Author.Tests.{lt-ltb, le-ltb, le-leb, lt-leb, eq-eqb, ne-eqb}
 use Rattle.words.specs.Choice.{pick}
 
@@ -64,3 +63,9 @@ first-holds false b q = q
 pub second-holds : (a b : Bool) → (a && b) ≡ true → b ≡ true
 second-holds true b q = q
 second-holds false b q = absurd (true-not-false {b = false} q refl)
+
+-- two tests are the same if each holds where the other does
+pub same-test : (a b : Bool) → (a ≡ true → b ≡ true) → (b ≡ true → a ≡ true) → a ≡ b
+same-test true b f g = sym (f refl)
+same-test false true f g = g refl
+same-test false false f g = refl

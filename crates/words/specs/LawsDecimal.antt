@@ -4,16 +4,15 @@ use native.Mathlib.Nat.{le-refl, le-trans}
 use native.Mathlib.Numerals.{add-one}
 use native.Mathlib.Omega.{arith}
 use native.Mathlib.Decide.{decLe}
-use mathlib.Core.Path.{_≡_, refl, sym, ap, _∙_}
-use mathlib.Core.Bool.{Bool, true, false, _&&_, not}
+use mathlib.Core.Path.{_≡_, refl, ap, _∙_}
+use mathlib.Core.Bool.{Bool, true, false, _&&_}
 use mathlib.Core.List.{List, [], _∷_}
 use lib.Dec.{ltb, leb, eqb}
 use lib.ListN.{length, getD, drop, drop-of-length-le}
 use lib.Seq.{drop-cons}
-use borrow.Author.Tests.{lt-ltb, le-ltb, le-leb, lt-leb, eq-eqb, ne-eqb, leb-true}
+use borrow.Author.Tests.{lt-ltb, le-ltb, le-leb, lt-leb, eq-eqb, ne-eqb}
 use Rattle.words.specs.Choice.{pick}
-use Rattle.words.specs.LawsChoice.{pick-true, pick-false, both, first-fails, second-fails, first-holds, second-holds, decided}
-use Rattle.words.specs.Hex.{within}
+use Rattle.words.specs.LawsChoice.{pick-true, pick-false, both, second-fails, first-holds}
 use Rattle.words.specs.LawsHex.{within-yes, within-low, within-high}
 use Rattle.words.specs.Decimal.{allDigits, valueAfter, valueOf, leadingZero, isDecimal, decimalOf}
 
@@ -101,3 +100,8 @@ decimal-none bound l h d = by (decLe (valueOf l) bound)
         let e : decimalOf bound l ≡ valueOf l = (unfold decimalOf in pick-true (isDecimal l && leb (valueOf l) bound) (valueOf l) (bound + 1) (both (isDecimal l) (leb (valueOf l) bound) d (le-leb (valueOf l) bound p))) in
         absurd (omega arith)
     by (no p) = omega arith
+
+-- a decimal text up to the bound is read as its value
+pub decimal-value : (bound : ℕ) (l : List ℕ) → isDecimal l ≡ true → valueOf l ≤ bound → decimalOf bound l ≡ valueOf l
+unfolding decimalOf
+decimal-value bound l d h = pick-true (isDecimal l && leb (valueOf l) bound) (valueOf l) (bound + 1) (both (isDecimal l) (leb (valueOf l) bound) d (le-leb (valueOf l) bound h))

@@ -1,17 +1,14 @@
 -- Laws of 14-bit words, stated over the width where it has no say: AND, containment, and words between an old and a new one.
 use Prim.Native.Nat.{ℕ, zero, suc, _+_, _-_, _*_, _/_, _%_, _^_, _≤_, _<_, min}
-use native.Mathlib.Nat.{mod-eq-of-lt, mod-lt, div-one, div-div-eq-div-mul, div-eq-of-lt, pow-succ', pow-zero, pow-suc, mul-comm, min-le-left, min-le-right, min-eq-right, le-antisymm, le-trans, zero-div, zero-mod, sub-add-cancel, div-lt-iff-lt-mul, zero-add, add-zero}
-use native.Mathlib.Numerals.{add-one}
+use native.Mathlib.Nat.{mod-eq-of-lt, div-one, div-div-eq-div-mul, div-eq-of-lt, pow-succ', min-le-left, min-eq-right, zero-div, zero-mod, div-lt-iff-lt-mul}
 use native.Mathlib.Omega.{arith}
-use native.Mathlib.Decide.{decLt}
-use mathlib.Core.Path.{_≡_, refl, sym, ap, subst, _∙_}
-use mathlib.Core.Logic.{_⊎_, inl, inr, ⊎-elim}
-use mathlib.Core.Bool.{Bool, true, false}
-use lib.Dec.{ltb}
-use lib.Pow.{pow-pos, pow-add, shr-shr}
-use lib.Bits.{bitAnd, and-step, and-comm, and-mask, and-self, and-lt, and-le-r, and-shr}
+use mathlib.Core.Path.{_≡_, refl, sym, ap, _∙_}
+use mathlib.Core.Logic.{inl, inr, ⊎-elim}
+use mathlib.Core.Bool.{true, false}
+use lib.Pow.{pow-pos, shr-shr}
+use lib.Bits.{bitAnd, and-step, and-comm, and-mask, and-self, and-lt, and-shr}
 use borrow.Author.Tests.{ltb-true, ltb-false, lt-ltb, le-ltb}
-use Rattle.words.specs.Word.{erased, notGiven, isWord, bit, Between, Contains}
+use Rattle.words.specs.Word.{erased, isWord, bit, Between, Contains}
 
 -- ---- what 14 bits hold
 

@@ -5,9 +5,6 @@ use Rattle.words.specs.LawsChoice.{tests}
 use borrow.Author.Needs.{needs}
 use Rattle.words.proofs.address.address_of.Statement.{statement}
 use Rattle.words.proofs.address.address_of.Tie as tie
-use Rattle.words.proofs.address.address_of.Reads as reads
-use Rattle.words.proofs.address.address_of.Lts as lts
-use Rattle.words.proofs.address.place.Reads as place-reads
 
 cast-from : tie.Need-cast-from
 cast-from c = search needs

@@ -3,8 +3,6 @@ use Rattle.words.specs.Address.{doubled}
 use borrow.Author.Needs.{needs}
 use Rattle.words.proofs.address.double.Statement.{statement}
 use Rattle.words.proofs.address.double.Tie as tie
-use Rattle.words.proofs.address.double.Reads as reads
-use Rattle.words.proofs.address.double.Lts as lts
 
 cast-t3 : tie.Need-cast-t3
 cast-t3 c = search needs

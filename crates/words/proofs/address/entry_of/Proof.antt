@@ -5,8 +5,6 @@ use Rattle.words.specs.LawsChoice.{tests}
 use borrow.Author.Needs.{needs}
 use Rattle.words.proofs.address.entry_of.Statement.{statement}
 use Rattle.words.proofs.address.entry_of.Tie as tie
-use Rattle.words.proofs.address.entry_of.Reads as reads
-use Rattle.words.proofs.address.entry_of.Lts as lts
 
 cast-at : tie.Need-cast-at
 cast-at c = search needs

@@ -1,12 +1,8 @@
 -- The test of an even address.
-use Rattle.words.specs.Address.{halved}
 use Rattle.words.specs.LawsAddress.{halved-odd, halved-even}
 use borrow.Author.Needs.{needs}
 use Rattle.words.proofs.address.halve.Statement.{statement}
 use Rattle.words.proofs.address.halve.Tie as tie
-use Rattle.words.proofs.address.halve.Reads as reads
-use Rattle.words.proofs.address.halve.Lts as lts
-use Rattle.words.proofs.address.place.Reads as place-reads
 
 place-requires : tie.Need-place-requires
 place-requires c κs = search needs

@@ -5,8 +5,6 @@ use Rattle.words.specs.LawsChoice.{tests}
 use borrow.Author.Needs.{needs}
 use Rattle.words.proofs.address.place.Statement.{statement}
 use Rattle.words.proofs.address.place.Tie as tie
-use Rattle.words.proofs.address.place.Reads as reads
-use Rattle.words.proofs.address.place.Lts as lts
 
 cast-t4 : tie.Need-cast-t4
 cast-t4 c = search needs

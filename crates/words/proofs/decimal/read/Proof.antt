@@ -5,9 +5,6 @@ use Rattle.words.specs.LawsDecimal.{decimal-empty, decimal-leading, deci
 use borrow.Author.Needs.{needs}
 use Rattle.words.proofs.decimal.read.Statement.{statement}
 use Rattle.words.proofs.decimal.read.Tie as tie
-use Rattle.words.proofs.decimal.read.Reads as reads
-use Rattle.words.proofs.decimal.read.Lts as lts
-use Rattle.words.proofs.decimal.read_digits.Reads as read-digits-reads
 
 add-none : tie.Need-add-none
 add-none c = search needs

@@ -7,8 +7,6 @@ use borrow.Author.Needs.{needs}
 use Rattle.words.specs.LawsDecimal.{leftOf, left-end, left-on, left-low, left-high, left-over}
 use Rattle.words.proofs.decimal.read_digits.Statement.{statement}
 use Rattle.words.proofs.decimal.read_digits.Tie as tie
-use Rattle.words.proofs.decimal.read_digits.Reads as reads
-use Rattle.words.proofs.decimal.read_digits.Lts as lts
 
 abbrev Inv-loop : tie.InvT-loop
 Inv-loop s most value₀ i₀ value i = (i ≤ length s) × (value ≤ most) × (leftOf most 0 s ≡ leftOf most value (drop i s))

@@ -5,10 +5,6 @@ use Rattle.words.specs.LawsHex.{byte-read, byte-short, byte-past, no-dig
 use borrow.Author.Needs.{needs}
 use Rattle.words.proofs.hex.byte.Statement.{statement}
 use Rattle.words.proofs.hex.byte.Tie as tie
-use Rattle.words.proofs.hex.byte.Reads as reads
-use Rattle.words.proofs.hex.byte.Lts as lts
-use Rattle.words.proofs.hex.digit.Reads as digit-reads
-use Rattle.words.proofs.hex.join_digits.Reads as join-digits-reads
 
 add-if2 : tie.Need-add-if2
 add-if2 c = search needs

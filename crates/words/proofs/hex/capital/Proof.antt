@@ -4,9 +4,6 @@ use mathlib.Core.Path.{sym, _∙_}
 use borrow.Author.Needs.{needs}
 use Rattle.words.proofs.hex.capital.Statement.{statement}
 use Rattle.words.proofs.hex.capital.Tie as tie
-use Rattle.words.proofs.hex.capital.Reads as reads
-use Rattle.words.proofs.hex.capital.Lts as lts
-use Rattle.words.proofs.hex.digit.Reads as digit-reads
 
 digit-requires : tie.Need-digit-requires
 digit-requires c κs = search needs

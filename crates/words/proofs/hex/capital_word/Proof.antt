@@ -5,10 +5,6 @@ use Rattle.words.specs.LawsHex.{word-read, word-short, word-past, no-cap
 use borrow.Author.Needs.{needs}
 use Rattle.words.proofs.hex.capital_word.Statement.{statement}
 use Rattle.words.proofs.hex.capital_word.Tie as tie
-use Rattle.words.proofs.hex.capital_word.Reads as reads
-use Rattle.words.proofs.hex.capital_word.Lts as lts
-use Rattle.words.proofs.hex.capital_byte.Reads as capital-byte-reads
-use Rattle.words.proofs.hex.join_bytes.Reads as join-bytes-reads
 
 sub-if2 : tie.Need-sub-if2
 sub-if2 c = search needs

@@ -8,8 +8,6 @@ use Rattle.words.proofs.Rule.{at}
 use borrow.Author.Needs.{needs}
 use Rattle.words.proofs.hex.digit.Statement.{statement}
 use Rattle.words.proofs.hex.digit.Tie as tie
-use Rattle.words.proofs.hex.digit.Reads as reads
-use Rattle.words.proofs.hex.digit.Lts as lts
 
 digits : List ℕ
 digits =

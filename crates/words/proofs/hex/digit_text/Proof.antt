@@ -5,8 +5,6 @@ use Rattle.words.specs.LawsChoice.{tests}
 use borrow.Author.Needs.{needs}
 use Rattle.words.proofs.hex.digit_text.Statement.{statement}
 use Rattle.words.proofs.hex.digit_text.Tie as tie
-use Rattle.words.proofs.hex.digit_text.Reads as reads
-use Rattle.words.proofs.hex.digit_text.Lts as lts
 
 add-result : tie.Need-add-result
 add-result c = search needs

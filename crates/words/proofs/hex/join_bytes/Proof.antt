@@ -5,8 +5,6 @@ use Rattle.words.specs.LawsChoice.{tests}
 use borrow.Author.Needs.{needs}
 use Rattle.words.proofs.hex.join_bytes.Statement.{statement}
 use Rattle.words.proofs.hex.join_bytes.Tie as tie
-use Rattle.words.proofs.hex.join_bytes.Reads as reads
-use Rattle.words.proofs.hex.join_bytes.Lts as lts
 
 mul-result : tie.Need-mul-result
 mul-result c = search needs

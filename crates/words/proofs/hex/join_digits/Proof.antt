@@ -1,13 +1,10 @@
 -- Both numbers are below the limit, or the answer is the limit's square.
-use mathlib.Core.Path.{sym}
 use Rattle.words.specs.Choice.{pick}
 use Rattle.words.specs.Hex.{joined}
 use Rattle.words.specs.LawsChoice.{tests}
 use borrow.Author.Needs.{needs}
 use Rattle.words.proofs.hex.join_digits.Statement.{statement}
 use Rattle.words.proofs.hex.join_digits.Tie as tie
-use Rattle.words.proofs.hex.join_digits.Reads as reads
-use Rattle.words.proofs.hex.join_digits.Lts as lts
 
 mul-result : tie.Need-mul-result
 mul-result c = search needs

@@ -4,8 +4,6 @@ use lib.Seq.{set-out}
 use borrow.Author.Needs.{needs}
 use Rattle.words.proofs.hex.put.Statement.{statement}
 use Rattle.words.proofs.hex.put.Tie as tie
-use Rattle.words.proofs.hex.put.Reads as reads
-use Rattle.words.proofs.hex.put.Lts as lts
 
 slice-write-out : tie.Need-slice-write-out
 slice-write-out c = search needs

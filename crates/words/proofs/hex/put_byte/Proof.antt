@@ -7,10 +7,6 @@ use Rattle.words.specs.LawsLists.{sets-past}
 use borrow.Author.Needs.{needs}
 use Rattle.words.proofs.hex.put_byte.Statement.{statement}
 use Rattle.words.proofs.hex.put_byte.Tie as tie
-use Rattle.words.proofs.hex.put_byte.Reads as reads
-use Rattle.words.proofs.hex.put_byte.Lts as lts
-use Rattle.words.proofs.hex.digit_text.Reads as digit-text-reads
-use Rattle.words.proofs.hex.put.Reads as put-reads
 
 digit-text-requires : tie.Need-digit-text-requires
 digit-text-requires c κs = search needs

@@ -3,9 +3,6 @@ use Rattle.words.specs.LawsHex.{word-put, word-put-short, word-put-past}
 use borrow.Author.Needs.{needs}
 use Rattle.words.proofs.hex.put_word.Statement.{statement}
 use Rattle.words.proofs.hex.put_word.Tie as tie
-use Rattle.words.proofs.hex.put_word.Reads as reads
-use Rattle.words.proofs.hex.put_word.Lts as lts
-use Rattle.words.proofs.hex.put_byte.Reads as put-byte-reads
 
 cast-put-byte : tie.Need-cast-put-byte
 cast-put-byte c = search needs

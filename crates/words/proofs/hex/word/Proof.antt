@@ -5,10 +5,6 @@ use Rattle.words.specs.LawsHex.{word-read, word-short, word-past, no-dig
 use borrow.Author.Needs.{needs}
 use Rattle.words.proofs.hex.word.Statement.{statement}
 use Rattle.words.proofs.hex.word.Tie as tie
-use Rattle.words.proofs.hex.word.Reads as reads
-use Rattle.words.proofs.hex.word.Lts as lts
-use Rattle.words.proofs.hex.byte.Reads as byte-reads
-use Rattle.words.proofs.hex.join_bytes.Reads as join-bytes-reads
 
 sub-if2 : tie.Need-sub-if2
 sub-if2 c = search needs

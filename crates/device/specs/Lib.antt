@@ -1,0 +1,7 @@
+-- The device record and the device table, and their laws in the modules whose names begin with Laws.
+pub mod Record
+pub mod Table
+pub mod LawsRecord
+pub mod LawsSplit
+pub mod LawsLine
+pub mod LawsTable
