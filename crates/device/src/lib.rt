@@ -1,8 +1,10 @@
 // The device record and its rules (13), and the device table (15, 16). No call here has a `requires`.
 mod line;
+mod memory;
 mod record;
 mod table;
 
+pub use memory::is_image;
 pub use record::judge;
 pub use table::find_device;
 pub use table::judge_table;

@@ -16,6 +16,7 @@ use Rattle.words.proofs.hex.put.Reads as put
 use Rattle.words.proofs.hex.put_byte.Reads as put-byte
 use Rattle.words.proofs.hex.put_word.Reads as put-word
 use Rattle.words.proofs.decimal.read.Reads as read
+use Rattle.words.proofs.list.is_words.Reads as is-words
 
 pub double-determined : (κs : _) (a : _) (r s : _) (x y : _) → double.Post κs a r x → double.Post κs a s y → r ≡ s
 double-determined κs a r s x y p q = determined p q
@@ -58,3 +59,6 @@ put-byte-determined κs a r s x y p q = determined p q
 
 pub put-word-determined : (κs : _) (a : _) (r s : _) (x y : _) → put-word.Post κs a r x → put-word.Post κs a s y → now (x .0) ≡ now (y .0)
 put-word-determined κs a r s x y p q = determined p q
+
+pub is-words-determined : (κs : _) (a : _) (r s : _) (x y : _) → is-words.Post κs a r x → is-words.Post κs a s y → r ≡ s
+is-words-determined κs a r s x y p q = determined p q

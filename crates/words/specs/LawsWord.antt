@@ -7,8 +7,15 @@ use mathlib.Core.Logic.{inl, inr, ⊎-elim}
 use mathlib.Core.Bool.{true, false}
 use lib.Pow.{pow-pos, shr-shr}
 use lib.Bits.{bitAnd, and-step, and-comm, and-mask, and-self, and-lt, and-shr}
-use borrow.Author.Tests.{ltb-true, ltb-false, lt-ltb, le-ltb}
-use Rattle.words.specs.Word.{erased, isWord, bit, Between, Contains}
+use borrow.Author.Tests.{ltb-true, ltb-false, lt-ltb, le-ltb, eqb-true, eq-eqb, ne-eqb}
+use mathlib.Core.List.{List}
+use lib.Dec.{eqb}
+use lib.ListN.{length, getD}
+use native.Mathlib.Decide.{decLt}
+use Rattle.words.specs.Lists.{every}
+use Rattle.words.specs.LawsChoice.{both, first-holds, second-holds, first-fails, second-fails}
+use Rattle.words.specs.LawsLists.{every-at, every-all, every-no, getD-past}
+use Rattle.words.specs.Word.{erased, isWord, bit, Between, Contains, wordsOf}
 
 -- ---- what 14 bits hold
 
@@ -206,3 +213,32 @@ bit-seven w = refl
 pub erased-bit-seven : bit erased 7 ≡ 1
 unfolding bit
 erased-bit-seven = refl
+
+-- ---- lists of words
+
+module _ (n : ℕ) (l : List ℕ) where
+  pub words-long : wordsOf n l ≡ true → length l ≡ n
+  unfolding wordsOf
+  words-long e = eqb-true (length l) n (first-holds (eqb (length l) n) (every n (λ i. isWord (getD l i 0))) e)
+
+  pub words-each : wordsOf n l ≡ true → (i : ℕ) → getD l i 0 < 0x4000
+  unfolding wordsOf
+  words-each e i = by (decLt i n)
+    where
+      by : Dec (i < n) → getD l i 0 < 0x4000
+      by (yes h) = word-lt (getD l i 0) (every-at n (λ k. isWord (getD l k 0)) (second-holds (eqb (length l) n) (every n (λ k. isWord (getD l k 0))) e) i h)
+      by (no h) =
+          let long : length l ≡ n = eqb-true (length l) n (first-holds (eqb (length l) n) (every n (λ k. isWord (getD l k 0))) e) in
+          rw (getD-past l i (omega arith)) (omega arith)
+
+  pub words-of : length l ≡ n → ((i : ℕ) → i < n → getD l i 0 < 0x4000) → wordsOf n l ≡ true
+  unfolding wordsOf
+  words-of e h = both (eqb (length l) n) _ (eq-eqb (length l) n e) (every-all n (λ i. isWord (getD l i 0)) (λ i p. is-word (getD l i 0) (h i p)))
+
+  pub words-short : (length l ≡ n → ⊥) → wordsOf n l ≡ false
+  unfolding wordsOf
+  words-short h = first-fails (eqb (length l) n) _ (ne-eqb (length l) n h)
+
+  pub words-high : (i : ℕ) → i < n → 0x4000 ≤ getD l i 0 → wordsOf n l ≡ false
+  unfolding wordsOf
+  words-high i p h = second-fails (eqb (length l) n) _ (every-no n (λ k. isWord (getD l k 0)) i p (not-word (getD l i 0) h))

@@ -1,10 +1,13 @@
 -- Words of the target ('Memory of the target'): 14 bits; and what 'each bit is the old one or the new one' means for a cut.
 use Prim.Native.Nat.{ℕ, _/_, _%_, _^_}
 use mathlib.Core.Path.{_≡_}
-use mathlib.Core.Bool.{Bool}
+use mathlib.Core.Bool.{Bool, _&&_}
+use mathlib.Core.List.{List}
 use mathlib.Core.Logic.{_⊎_}
-use lib.Dec.{ltb}
+use lib.Dec.{ltb, eqb}
+use lib.ListN.{length, getD}
 use lib.Bits.{bitAnd}
+use Rattle.words.specs.Lists.{every}
 
 -- an erased word: every bit is 1
 abbrev pub erased : ℕ
@@ -29,3 +32,7 @@ Between old new w = (i : ℕ) → (bit w i ≡ bit old i) ⊎ (bit w i ≡ bit n
 -- w has every bit that x has, so that a write of x over w gives x
 unfoldable pub Contains : ℕ → ℕ → Type 0
 Contains w x = bitAnd w x ≡ x
+
+-- a list of n words
+unfoldable pub wordsOf : ℕ → List ℕ → Bool
+wordsOf n l = eqb (length l) n && every n (λ i. isWord (getD l i 0))

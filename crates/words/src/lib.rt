@@ -2,6 +2,7 @@
 pub mod address;
 pub mod decimal;
 pub mod hex;
+pub mod list;
 mod table;
 
 // The address of a word of the target.
