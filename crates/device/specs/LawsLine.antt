@@ -20,8 +20,9 @@ use Rattle.words.specs.LawsDecimal.{decimal-read, decimal-value}
 use Rattle.device.specs.declared.Device.{Device}
 use Rattle.device.specs.Record.{deviceOk}
 use Rattle.device.specs.LawsRecord.{Rules, Row, rules, breaks, row}
-use Rattle.device.specs.LawsSplit.{part, part-found, part-last, some-piece}
-use Rattle.device.specs.Table.{tab, split, field, allPrintable, nameOk, hexField, hexOk, deviceOf, lineOk, idOf}
+use Rattle.words.specs.Text.{tab, split}
+use Rattle.words.specs.LawsText.{part, part-found, part-last, some-piece}
+use Rattle.device.specs.Table.{field, allPrintable, nameOk, hexField, hexOk, deviceOf, lineOk, idOf}
 
 -- ---- results of the code's parts
 

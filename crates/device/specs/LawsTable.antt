@@ -13,9 +13,19 @@ use Rattle.bytes.specs.Bytes.{indexOf, slice}
 use Rattle.words.specs.Choice.{pick}
 use Rattle.words.specs.LawsChoice.{pick-true, pick-false, first-holds, second-holds, first-fails, second-fails, true-not-false}
 use Rattle.device.specs.declared.Device.{Device}
-use Rattle.device.specs.LawsSplit.{part, part-found, part-last, but-last-more, last-more}
+use Rattle.words.specs.Text.{lf, split}
+use Rattle.words.specs.LawsText.{part, part-found, part-last, some-piece}
 use Rattle.device.specs.LawsLine.{LineRead}
-use Rattle.device.specs.Table.{lf, split, butLast, lastOf, field, deviceOf, lineOk, idOf, linesOf, endsInLf, allLinesOk, hasId, idsOnce, tableOk, tableNumber, lineWith, startOf, refused, given, foundIn}
+use Rattle.device.specs.Table.{butLast, lastOf, field, deviceOf, lineOk, idOf, linesOf, endsInLf, allLinesOk, hasId, idsOnce, tableOk, tableNumber, lineWith, startOf, refused, given, foundIn}
+
+-- ---- all pieces but the last, and the last
+
+module _ (mark : ℕ) (p : List ℕ) (l : List ℕ) where
+  pub but-last-more : butLast (p ∷ split mark l) ≡ p ∷ butLast (split mark l)
+  but-last-more = some-piece mark l (λ ps. butLast (p ∷ ps) ≡ p ∷ butLast ps) (λ q qs. unfold butLast in refl)
+
+  pub last-more : lastOf (p ∷ split mark l) ≡ lastOf (split mark l)
+  last-more = some-piece mark l (λ ps. lastOf (p ∷ ps) ≡ lastOf ps) (λ q qs. unfold lastOf in refl)
 
 -- ---- the first line of what is left of a text
 

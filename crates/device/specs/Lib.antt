@@ -4,6 +4,5 @@ pub mod Memory
 pub mod Table
 pub mod LawsRecord
 pub mod LawsMemory
-pub mod LawsSplit
 pub mod LawsLine
 pub mod LawsTable

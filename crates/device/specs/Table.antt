@@ -5,29 +5,14 @@ use mathlib.Core.List.{List, [], _∷_}
 use lib.Dec.{ltb, leb, eqb}
 use lib.ListN.{length, getD}
 use Rattle.words.specs.Choice.{pick}
+use Rattle.words.specs.Text.{tab, lf, split}
 use Rattle.words.specs.Hex.{within, capitalOf, wordBy}
 use Rattle.words.specs.Decimal.{isDecimal, valueOf}
 use Rattle.device.specs.declared.Device.{Device}
 use Rattle.device.specs.declared.Found.{Found}
 use Rattle.device.specs.Record.{deviceOk}
 
--- ---- a text in pieces
-
-abbrev pub tab : ℕ
-tab = 9
-
-abbrev pub lf : ℕ
-lf = 10
-
--- a character more in front of the first piece
-unfoldable pub inFront : ℕ → List (List ℕ) → List (List ℕ)
-inFront c [] = (c ∷ []) ∷ []
-inFront c (p ∷ ps) = (c ∷ p) ∷ ps
-
--- the pieces of a text that a mark parts: one more than there are marks
-unfoldable pub split : (mark : ℕ) → List ℕ → List (List ℕ)
-split mark [] = [] ∷ []
-split mark (c ∷ l) = pick (eqb c mark) ([] ∷ split mark l) (inFront c (split mark l))
+-- ---- lines
 
 -- all pieces but the last
 unfoldable pub butLast : List (List ℕ) → List (List ℕ)

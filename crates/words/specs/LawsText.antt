@@ -9,8 +9,8 @@ use lib.Dec.{eqb}
 use lib.ListN.{length, take, drop, length-drop}
 use lib.Seq.{take-length, drop-drop}
 use Rattle.bytes.specs.Bytes.{indexOf, indexAfter, slice}
 use Rattle.words.specs.Choice.{pick}
-use Rattle.device.specs.Table.{split, inFront, butLast, lastOf}
+use Rattle.words.specs.Text.{split, inFront}
 
 -- ---- a list of characters
 
@@ -65,8 +65,6 @@ module _ (mark : ℕ) (l : List ℕ) (from r : ℕ) (e : r ≡ from + indexOf ma
   pub part-last : length l ≤ r → split mark (drop from l) ≡ drop from l ∷ []
   part-last h = split-whole mark (drop from l) (rw length-drop (omega (arith, at)))
 
--- ---- all pieces but the last, and the last
-
 -- a text always has a piece
 pub some-piece : (mark : ℕ) (l : List ℕ) (P : List (List ℕ) → Type 0) → ((p : List ℕ) (ps : List (List ℕ)) → P (p ∷ ps)) → P (split mark l)
 unfolding split
@@ -80,10 +78,3 @@ some-piece mark (c ∷ l) P h = by (eqb c mark)
     by : (t : Bool) → P (pick t ([] ∷ split mark l) (inFront c (split mark l)))
     by true = unfold pick in h [] (split mark l)
     by false = unfold pick in front (split mark l)
-
-module _ (mark : ℕ) (p : List ℕ) (l : List ℕ) where
-  pub but-last-more : butLast (p ∷ split mark l) ≡ p ∷ butLast (split mark l)
-  but-last-more = some-piece mark l (λ ps. butLast (p ∷ ps) ≡ p ∷ butLast ps) (λ q qs. unfold butLast in refl)
-
-  pub last-more : lastOf (p ∷ split mark l) ≡ lastOf (split mark l)
-  last-more = some-piece mark l (λ ps. lastOf (p ∷ ps) ≡ lastOf ps) (λ q qs. unfold lastOf in refl)
