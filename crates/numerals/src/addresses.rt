@@ -26,6 +26,7 @@ fn halve(byte: u64) {
     show::end();
 }
 
+// The byte addresses of words, up to the last, which needs 17 bits.
 pub(crate) fn doubles() {
     double(0);
     double(1);
@@ -80,6 +81,7 @@ fn around(words: u16) {
     entry(words, 11, 0x800b);
 }
 
+// The entry of an address, in a memory of so many program words and so many words from 8000h on.
 fn entry(words: u16, tail: u8, at: u16) {
     show::text(b"entry");
     show::decimal(words as u64);
@@ -89,6 +91,7 @@ fn entry(words: u16, tail: u8, at: u16) {
     show::end();
 }
 
+// The address of an entry, in the same memory.
 fn back(words: u16, tail: u8, entry: usize) {
     show::text(b"address");
     show::decimal(words as u64);

@@ -1,6 +1,7 @@
 // Lists of words: their length and the greatest word.
 use crate::show;
 
+// Lists that keep each rule, and lists that break one.
 pub(crate) fn lists() {
     let words = [0, 0x3fff, 0x1234];
     let wide = [0, 0x4000, 0x1234];

@@ -2,6 +2,7 @@
 use crate::show;
 use words::hex;
 
+// Four digits, of which some or all may be past the end.
 pub(crate) fn words() {
     word(0, 0x3eff);
     word(2, 0x0a90);
@@ -18,6 +19,7 @@ fn word(at: usize, w: u16) {
     shown(at, &out);
 }
 
+// Two digits and single characters at the same places.
 pub(crate) fn bytes() {
     byte(0, 0x9a);
     byte(4, 0x0f);

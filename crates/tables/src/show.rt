@@ -1,7 +1,7 @@
 // One case as a line: a label, what judging the table answers, what looking an ID up answers, and the record that was found.
 use libc::STDOUT_FILENO;
 
-// A case that is looked up.
+// Judges a table, looks an ID up in it, and prints both answers.
 pub(crate) fn case(label: &[u8], table: &[u8], id: u16) {
     io::write_all(STDOUT_FILENO, label);
     field();
@@ -37,16 +37,19 @@ fn name(table: &[u8], at: usize, length: usize) {
     io::write_all(STDOUT_FILENO, &table[at..at + length]);
 }
 
+// A number in four hex digits, as a field of its own.
 fn hex(n: u16) {
     field();
     io::print_hex(STDOUT_FILENO, n as u64, 4);
 }
 
+// A number in decimal, as a field of its own.
 fn decimal(n: u16) {
     field();
     io::print_decimal(STDOUT_FILENO, n as u64);
 }
 
+// Begins the next field.
 fn field() {
     io::write_all(STDOUT_FILENO, b"\t");
 }
