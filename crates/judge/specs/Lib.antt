@@ -1,0 +1,9 @@
+-- Checksum and verify, and their laws in the modules whose names begin with Laws.
+pub mod Count
+pub mod Checksum
+pub mod Verify
+pub mod LawsReading
+pub mod LawsCount
+pub mod LawsChecksum
+pub mod LawsVerify
+pub mod LawsVerdict

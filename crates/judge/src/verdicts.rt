@@ -1,0 +1,140 @@
+// A reading held against a wanted reading.
+use crate::Verdict;
+use crate::reading;
+use device::Device;
+use words::CONFIG_BASE;
+use words::Place;
+use words::WordAddress;
+ghost use mathlib.Core.Path.{_≡_};
+ghost use mathlib.Core.Bool.{_&&_, not};
+ghost use Prim.Native.Nat.{_+_, _^_, _≤_, _<_};
+ghost use lib.Dec.{eqb};
+ghost use lib.ListN.{length};
+ghost use Rattle.words.specs.Address.{configBase, addressOf};
+ghost use Rattle.device.specs.Record.{mostWords};
+ghost use Rattle.device.specs.Memory.{protected};
+ghost use Rattle.judge.specs.Verify.{judged, differs, bare, verdictOf, verified};
+ghost use Rattle.judge.specs.LawsCount.{Found, Noted};
+
+// How many entries differ so far, and the first of them if there is one.
+struct Differences {
+    count: usize,
+    first: usize,
+}
+
+// How a reading of the device differs from the wanted one where it is judged; or 13 or 21.
+pub fn verify(d: Device, wanted: &[u16], reading: &[u16]) -> Verdict
+    ensures { λ r. ⌜ r ≡ verified d (now (wanted .entry)) (now (reading .entry)) ⌝ }
+{
+    if device::judge(d) != 0 {
+        return only(13);
+    }
+    if reading::is_reading(d.words, wanted) {} else {
+        return only(21);
+    }
+    if reading::is_reading(d.words, reading) {} else {
+        return only(21);
+    }
+    verdict(d.words, wanted, reading)
+}
+
+// What two sound readings come to.
+fn verdict(words: u16, wanted: &[u16], reading: &[u16]) -> Verdict
+    requires { ⌜ (words ≤ mostWords) × (length (now wanted) ≡ words + 9) × (length (now reading) ≡ words + 9) ⌝ }
+    ensures { λ r. ⌜ r ≡ verdictOf words (now (wanted .entry)) (now (reading .entry)) ⌝ }
+{
+    let hidden = reading::is_protected(words, reading);
+    let found = compare(words, hidden, wanted, reading);
+    if found.count == 0 {
+        if hidden {
+            return only(41);
+        }
+        return only(0);
+    }
+    Verdict {
+        number: 40,
+        address: address(words, found.first),
+        count: found.count,
+    }
+}
+
+// Goes over the entries once.
+fn compare(words: u16, hidden: bool, wanted: &[u16], reading: &[u16]) -> Differences
+    requires { ⌜ (length (now wanted) ≡ words + 9) × (length (now reading) ≡ words + 9) × (hidden ≡ protected words (now reading)) ⌝ }
+    ensures { λ r. ⌜ Found (words + 9) (differs words (now (wanted .entry)) (now (reading .entry))) (r .count) (r .first) ⌝ }
+{
+    let mut found = Differences { count: 0, first: 0 };
+    let mut i: usize = 0;
+    while i < reading.len() {
+        let other = differ(words, hidden, i, wanted[i], reading[i]);
+        found = note(found, i, other);
+        i += 1;
+    }
+    found
+}
+
+// One entry more: the first difference is kept.
+fn note(found: Differences, i: usize, other: bool) -> Differences
+    requires { ⌜ found .count < 2 ^ 32 ⌝ }
+    ensures { λ r. ⌜ Noted (found .count) (found .first) i other (r .count) (r .first) ⌝ }
+{
+    if other {
+        if found.count == 0 {
+            return Differences { count: 1, first: i };
+        }
+        return Differences {
+            count: found.count + 1,
+            first: found.first,
+        };
+    }
+    found
+}
+
+// Whether an entry is judged and its two words are not the same.
+fn differ(words: u16, hidden: bool, i: usize, wanted: u16, reading: u16) -> bool
+    ensures { λ r. ⌜ r ≡ (judged words hidden i && not (eqb wanted reading)) ⌝ }
+{
+    if is_judged(words, hidden, i) {
+        return wanted != reading;
+    }
+    false
+}
+
+// Program words are judged unless they are hidden; of the others, user IDs and configuration words.
+fn is_judged(words: u16, hidden: bool, i: usize) -> bool
+    ensures { λ r. ⌜ r ≡ judged words hidden i ⌝ }
+{
+    let program = words as usize;
+    if i < program {
+        return !hidden;
+    }
+    if i < program + 4 {
+        return true;
+    }
+    if i < program + 7 {
+        return false;
+    }
+    i < program + 9
+}
+
+// The address of an entry of a reading.
+fn address(words: u16, entry: usize) -> WordAddress
+    requires { ⌜ (words ≤ mostWords) × (entry < words + 9) ⌝ }
+    ensures { λ r. ⌜ r ≡ (record { 0 = addressOf configBase words entry }) ⌝ }
+{
+    match words::address::address_of(WordAddress(CONFIG_BASE), words, 9, entry) {
+        Place::At(a) => a,
+        Place::Nowhere => WordAddress(0),
+    }
+}
+
+// A verdict that names nothing but its number.
+fn only(number: u8) -> Verdict
+    ensures { λ r. ⌜ r ≡ bare number ⌝ }
+{
+    Verdict {
+        number,
+        address: WordAddress(0),
+        count: 0,
+    }
+}
