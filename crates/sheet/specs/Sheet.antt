@@ -1,0 +1,93 @@
+-- Board sheets ('Sheets'; refusals 12, 14, 21, 26). Text is a list of bytes.
+use Prim.Native.Nat.{ℕ, zero, suc, _+_, _-_, _*_, _/_, _%_}
+use mathlib.Core.Bool.{Bool, true, false, _&&_}
+use mathlib.Core.List.{List, [], _∷_, _++_}
+use lib.Dec.{ltb, leb, eqb}
+use lib.ListN.{length, getD}
+use lib.Seq.{sets}
+use Rattle.words.specs.Choice.{pick}
+use Rattle.words.specs.Word.{isWord}
+use Rattle.words.specs.Lists.{build}
+use Rattle.words.specs.Text.{tab, lf}
+use Rattle.words.specs.Hex.{capitalOf, wordBy, wordText}
+use Rattle.words.specs.Address.{configBase}
+use Rattle.device.specs.declared.Device.{Device}
+use Rattle.device.specs.Record.{deviceOk}
+use Rattle.device.specs.Memory.{readingOk}
+use Rattle.sheet.specs.declared.Written.{Written}
+use Rattle.sheet.specs.declared.Line1.{Line1}
+
+-- ---- what is written
+
+-- the fields of `count` words from entry i on, a tab before each
+unfoldable pub fields : (count i : ℕ) → List ℕ → List ℕ
+fields zero i l = []
+fields (suc n) i l = tab ∷ (wordText (getD l i 0) ++ fields n (i + 1) l)
+
+-- a line: an address, words from entry i on, LF
+unfoldable pub lineText : (address count i : ℕ) → List ℕ → List ℕ
+lineText address count i l = wordText address ++ (fields count i l ++ lf ∷ [])
+
+-- n lines of eight program words each, the first of them line k
+unfoldable pub programLines : (n k : ℕ) → List ℕ → List ℕ
+programLines zero k l = []
+programLines (suc n) k l = lineText (8 * k) 8 (8 * k) l ++ programLines n (k + 1) l
+
+-- line 1 is the device ID; then the program words, eight a line; last a line 8000 with nine words
+unfoldable pub sheetText : Device → List ℕ → List ℕ
+sheetText d l =
+    wordText (d .id) ++ (lf ∷ (programLines (d .words / 8) 0 l ++ lineText configBase 9 (d .words) l))
+
+-- its length
+unfoldable pub sheetLength : Device → ℕ
+sheetLength d = 5 + 45 * (d .words / 8) + 50
+
+-- ---- what is read
+
+-- where the digits of word i stand
+unfoldable pub digitsAt : (words i : ℕ) → ℕ
+digitsAt words i = pick (ltb i words) (5 + 45 * (i / 8) + 5 * (i % 8) + 5) (5 + 45 * (words / 8) + 5 * (i - words) + 5)
+
+-- the words that stand there
+unfoldable pub wordsIn : (words : ℕ) → List ℕ → List ℕ
+wordsIn words text = build (words + 9) (λ i. wordBy capitalOf text (digitsAt words i))
+
+unfoldable pub sameText : List ℕ → List ℕ → Bool
+sameText [] [] = true
+sameText [] (c ∷ m) = false
+sameText (c ∷ l) [] = false
+sameText (c ∷ l) (b ∷ m) = eqb c b && sameText l m
+
+-- a text is a sheet if it is just what is written of the words that stand in it, and these are a reading
+unfoldable pub sheetOk : Device → List ℕ → Bool
+sheetOk d text = readingOk (d .words) (wordsIn (d .words) text) && sameText text (sheetText d (wordsIn (d .words) text))
+
+-- ---- answers
+
+-- the reader: 13, 12, 14
+unfoldable pub readNumber : Device → (text buffer : List ℕ) → ℕ
+readNumber d text buffer = pick (deviceOk d) (pick (eqb (length buffer) (d .words + 9)) (pick (sheetOk d text) 0 14) 12) 13
+
+-- a refused sheet leaves the buffer
+unfoldable pub readBuffer : Device → (text buffer : List ℕ) → List ℕ
+readBuffer d text buffer = pick (eqb (readNumber d text buffer) 0) (wordsIn (d .words) text) buffer
+
+-- the writer: 13, 21, 26
+unfoldable pub written : Device → (reading out : List ℕ) → Written
+written d l out =
+    pick (deviceOk d)
+    (pick (readingOk (d .words) l)
+    (pick (leb (sheetLength d) (length out)) (record { number = 0; length = sheetLength d })
+    (record { number = 26; length = 0 }))
+    (record { number = 21; length = 0 }))
+    (record { number = 13; length = 0 })
+
+-- bytes past the sheet stay, and a refusal writes nothing
+unfoldable pub writtenText : Device → (reading out : List ℕ) → List ℕ
+writtenText d l out = pick (eqb (written d l out .number) 0) (sets out 0 (sheetText d l)) out
+
+-- the first line alone: an ID that some record can have, and LF
+unfoldable pub firstLine : List ℕ → Line1
+firstLine text =
+    pick (isWord (wordBy capitalOf text 0) && eqb (getD text 4 0) lf) (record { number = 0; id = wordBy capitalOf text 0 })
+    (record { number = 14; id = 0 })
