@@ -1,0 +1,105 @@
+// A trial run: entry, and then as many steps of a stream as it may take.
+use crate::Ran;
+use crate::Registers;
+use crate::effects::enter;
+use crate::single::Obeyed;
+use crate::single::perform;
+use device::Device;
+ghost use mathlib.Core.Path.{_≡_};
+ghost use Prim.Native.Nat.{_+_, _*_, _≤_, _<_, min};
+ghost use lib.ListN.{length, getD};
+ghost use Rattle.device.specs.LawsRecord.{Rules};
+ghost use Rattle.target.specs.Run.{stepAt, runRefusal};
+ghost use Rattle.target.specs.LawsStep.{Advances};
+ghost use Rattle.target.specs.LawsRun.{Runs, Goes};
+
+// Runs a stream on a target: 13, 32 and 34 before the first step, and then the refusal of the step that stops it.
+pub fn run(d: Device, cells: &mut [u16], stream: &[u8], allowance: usize, words: &mut [u16]) -> Ran
+    ensures { λ r. ⌜ Runs d (now (stream .entry)) allowance (now (words .entry)) (now (cells .entry)) r (now (words .exit)) (now (cells .exit)) ⌝ }
+{
+    let number = refusal_before(d, cells, stream);
+    if number != 0 {
+        return Ran {
+            number,
+            steps: 0,
+            words: 0,
+        };
+    }
+    go(d, cells, stream, least(allowance, stream.len() / 3), words)
+}
+
+// What stops a run before its first step.
+fn refusal_before(d: Device, cells: &[u16], stream: &[u8]) -> u8
+    ensures { λ r. ⌜ r ≡ runRefusal d (now (stream .entry)) (now (cells .entry)) ⌝ }
+{
+    if device::judge(d) != 0 {
+        return 13;
+    }
+    if words::list::is_words(cells, (d.words as usize) + 11) {} else {
+        return 32;
+    }
+    if stream.len() % 3 != 0 {
+        return 34;
+    }
+    0
+}
+
+// The steps, in turn, on a target that has been judged.
+fn go(d: Device, cells: &mut [u16], stream: &[u8], steps: usize, words: &mut [u16]) -> Ran
+    requires { ⌜ Rules d ⌝ }
+    requires { ⌜ (length (now cells) ≡ d .words + 11) × (3 * steps ≤ length (now stream)) ⌝ }
+    ensures { λ r. ⌜ Goes d (now (stream .entry)) steps (now (words .entry)) (now (cells .entry)) r (now (words .exit)) (now (cells .exit)) ⌝ }
+{
+    let mut registers = enter();
+    let mut read = 0;
+    let mut done = 0;
+    while done < steps {
+        let o = next_step(d, stream, done, registers, read, words, cells);
+        let number = o.number;
+        if number != 0 {
+            return Ran {
+                number,
+                steps: done,
+                words: read,
+            };
+        }
+        registers = o.registers;
+        read = o.read;
+        done += 1;
+    }
+    Ran {
+        number: 0,
+        steps: done,
+        words: read,
+    }
+}
+
+fn next_step(
+    d: Device,
+    stream: &[u8],
+    k: usize,
+    r: Registers,
+    read: usize,
+    words: &mut [u16],
+    cells: &mut [u16],
+) -> Obeyed
+    requires { ⌜ Rules d ⌝ }
+    requires { ⌜ (length (now cells) ≡ d .words + 11) × (read ≤ length (now words)) × (3 * k + 3 ≤ length (now stream)) ⌝ }
+    ensures { λ o. ⌜ Advances d (stepAt (now (stream .entry)) k) r read (now (words .entry)) (now (cells .entry)) (o .number) (o .registers) (o .read) (now (words .exit)) (now (cells .exit)) ⌝ }
+{
+    let at = 3 * k;
+    perform(d, stream[at], payload_at(stream, at), r, read, words, cells)
+}
+
+fn payload_at(stream: &[u8], at: usize) -> u16
+    requires { ⌜ at + 2 < length (now stream) ⌝ }
+    ensures { λ r. ⌜ r ≡ getD (now (stream .entry)) (at + 1) 0 + 256 * getD (now (stream .entry)) (at + 2) 0 ⌝ }
+{
+    (stream[at + 1] as u16) + 256 * (stream[at + 2] as u16)
+}
+
+fn least(a: usize, b: usize) -> usize
+    ensures { λ r. ⌜ r ≡ min a b ⌝ }
+{
+    if a < b { a } else { b }
+}
