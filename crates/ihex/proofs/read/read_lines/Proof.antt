@@ -1,0 +1,85 @@
+-- The lines ahead give the rest.
+use mathlib.Core.Path.{_∙_}
+use native.Mathlib.Omega.{arith}
+use Prim.Native.Nat.{_-_, _+_}
+use lib.ListN.{length}
+use Rattle.ihex.specs.LawsReader.{Ahead, ahead-all, ahead-on, lines-refused, lines-ended, lines-not-ended}
+use Rattle.ihex.proofs.read.read_lines.Statement.{statement}
+use Rattle.ihex.proofs.read.read_lines.Tie as tie
+
+abbrev Inv-loop : tie.InvT-loop
+Inv-loop words text image₀ at₀ line₀ ended₀ upper₀ image at line ended upper = Ahead words text image₀ at line ended upper image
+
+abbrev μ-loop : tie.MeasureT-loop
+μ-loop words text image₀ at₀ line₀ ended₀ upper₀ image at line ended upper = length text + 1 - at
+
+loop-holds : tie.Need-loop-holds Inv-loop μ-loop
+loop-holds c = ahead-all _ _ _ (c .before .before .pre .1) (c .before .before .pre .0)
+
+find-requires : tie.Need-find-requires Inv-loop μ-loop
+find-requires c κs = (omega arith, omega arith)
+
+sub-take-piece : tie.Need-sub-take-piece Inv-loop μ-loop
+sub-take-piece c = omega arith
+
+part-take-piece-start : tie.Need-part-take-piece-start Inv-loop μ-loop
+part-take-piece-start c = omega arith
+
+part-take-piece-end : tie.Need-part-take-piece-end Inv-loop μ-loop
+part-take-piece-end c = omega arith
+
+take-piece-requires : tie.Need-take-piece-requires Inv-loop μ-loop
+take-piece-requires c κs = c .before .before .before .before .loop .inv .long
+
+same-length : tie.Need-same-length Inv-loop μ-loop
+same-length c = c .before .before .before .before .take-piece .kept .1 .1 .1 .1 .0 ∙ c .before .before .before .before .before .before .before .before .before .loop .inv .kept
+
+returns : tie.Need-returns Inv-loop μ-loop
+returns c = lines-refused _ _ _ _ _ _ _ _ (c .before .before .before .before .before .before .before .before .before .loop .inv) (c .before .before .before .before .before .before .before .before .loop-test .taken) _ (c .before .before .before .before .before .before .before .find .ensures .0) _ _ _ _ (c .before .before .before .before .take-piece .ensures) (c .if1 .taken)
+
+add-line : tie.Need-add-line Inv-loop μ-loop
+add-line c = let a = c .before .before .before .before .before .before .before .before .before .loop .inv in omega arith
+
+add-at : tie.Need-add-at Inv-loop μ-loop
+add-at c = omega arith
+
+loop-less : tie.Need-loop-less Inv-loop μ-loop
+loop-less c = omega arith
+
+loop-again : tie.Need-loop-again Inv-loop μ-loop
+loop-again c = ahead-on _ _ _ _ _ _ _ _ (c .before .before .before .before .before .before .before .before .before .loop .inv) (c .before .before .before .before .before .before .before .before .loop-test .taken) _ (c .before .before .before .before .before .before .before .find .ensures .0) _ _ _ _ (c .before .before .before .before .take-piece .ensures) (c .before .before .before .before .before .before .before .find .ensures .1) (c .before .before .before .before .take-piece .kept .1 .1 .1 .1 .0) (c .if1 .left)
+
+same-length-2 : tie.Need-same-length-2 Inv-loop μ-loop
+same-length-2 c = c .before .before .loop .inv .kept
+
+returns-2 : tie.Need-returns-2 Inv-loop μ-loop
+returns-2 c = lines-ended _ _ _ _ _ _ _ _ (c .before .before .loop .inv) (c .before .loop-test .left) (c .if2 .taken)
+
+same-length-3 : tie.Need-same-length-3 Inv-loop μ-loop
+same-length-3 c = c .before .before .loop .inv .kept
+
+returns-3 : tie.Need-returns-3 Inv-loop μ-loop
+returns-3 c = lines-not-ended _ _ _ _ _ _ _ _ (c .before .before .loop .inv) (c .before .loop-test .left) (c .if2 .left)
+
+pub read-lines-spec : {M : Type 1} → statement M
+read-lines-spec =
+    tie.close
+    (tie.spec
+    Inv-loop
+    μ-loop
+    loop-holds
+    find-requires
+    sub-take-piece
+    part-take-piece-start
+    part-take-piece-end
+    take-piece-requires
+    same-length
+    returns
+    add-line
+    add-at
+    loop-less
+    loop-again
+    same-length-2
+    returns-2
+    same-length-3
+    returns-3)

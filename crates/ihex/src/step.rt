@@ -1,0 +1,94 @@
+// What one line does to a reading.
+use crate::give::give_words;
+use crate::line::byte_at;
+use crate::line::judge_line;
+use crate::line::line_end;
+ghost use mathlib.Core.Path.{_≡_};
+ghost use mathlib.Core.Bool.{false};
+ghost use Prim.Native.Nat.{_+_};
+ghost use lib.ListN.{length};
+ghost use Rattle.ihex.specs.Line.{withoutCr};
+ghost use Rattle.ihex.specs.Reader.{recordStep, lineStep};
+ghost use Rattle.ihex.specs.LawsGive.{reading};
+
+// Where a reading stands after a line: the end record was seen, the upper half, and a refusal or 0.
+pub(crate) struct Step {
+    pub ended: bool,
+    pub upper: u32,
+    pub number: u8,
+}
+
+// One line with the CR that may belong to its end.
+pub(crate) fn take_piece(
+    words: u16,
+    piece: &[u8],
+    ended: bool,
+    upper: u32,
+    image: &mut [u16],
+) -> Step
+    requires { ⌜ length (now image) ≡ words + 9 ⌝ }
+    ensures { λ r. ⌜ reading (r .ended) (r .upper) (now (image .exit)) (r .number) ≡ lineStep words (withoutCr (now (piece .entry))) (reading ended upper (now (image .entry)) 0) ⌝ }
+{
+    let n = line_end(piece);
+    take_line(words, &piece[..n], ended, upper, image)
+}
+
+// One line: an empty one is skipped, after the end record any other is refused.
+fn take_line(words: u16, line: &[u8], ended: bool, upper: u32, image: &mut [u16]) -> Step
+    requires { ⌜ length (now image) ≡ words + 9 ⌝ }
+    ensures { λ r. ⌜ reading (r .ended) (r .upper) (now (image .exit)) (r .number) ≡ lineStep words (now (line .entry)) (reading ended upper (now (image .entry)) 0) ⌝ }
+{
+    if line.len() == 0 {
+        return Step {
+            ended,
+            upper,
+            number: 0,
+        };
+    }
+    if ended {
+        return Step {
+            ended,
+            upper,
+            number: 11,
+        };
+    }
+    let number = judge_line(line);
+    if number != 0 {
+        return Step {
+            ended,
+            upper,
+            number,
+        };
+    }
+    take_record(words, line, upper, image)
+}
+
+// A sound record: data gives its words, the end is noted, an upper half is kept for what follows.
+fn take_record(words: u16, line: &[u8], upper: u32, image: &mut [u16]) -> Step
+    requires { ⌜ length (now image) ≡ words + 9 ⌝ }
+    ensures { λ r. ⌜ reading (r .ended) (r .upper) (now (image .exit)) (r .number) ≡ recordStep words (now (line .entry)) (reading false upper (now (image .entry)) 0) ⌝ }
+{
+    let kind = byte_at(line, 3);
+    if kind == 0 {
+        let given = give_words(words, upper, line, image);
+        return Step {
+            ended: false,
+            upper,
+            number: given,
+        };
+    }
+    if kind == 1 {
+        return Step {
+            ended: true,
+            upper,
+            number: 0,
+        };
+    }
+    let high = byte_at(line, 4);
+    let low = byte_at(line, 5);
+    Step {
+        ended: false,
+        upper: 256 * (high as u32) + (low as u32),
+        number: 0,
+    }
+}
