@@ -1,0 +1,36 @@
+-- Reset, and what both streams have.
+use Rattle.plan.specs.LawsPlanSteps.{update-opens}
+use Rattle.plan.specs.LawsPlanBounds.{update-room}
+use Rattle.plan.specs.LawsPlanWrote.{left-all, left-same, left-then, left-done, room-rest}
+use borrow.Author.Needs.{needs}
+use Rattle.plan.proofs.planner.put_update.Statement.{statement}
+use Rattle.plan.proofs.planner.put_update.Tie as tie
+
+cast-some-differ : tie.Need-cast-some-differ
+cast-some-differ c = search needs
+
+some-differ-requires : tie.Need-some-differ-requires
+some-differ-requires c κs = search needs
+
+put-order-requires : tie.Need-put-order-requires
+put-order-requires c κs = search needs
+
+put-body-requires : tie.Need-put-body-requires
+put-body-requires c κs = (c .before .before .before .before .before .before .before .before .before .before .pre .0, (c .before .before .before .before .before .before .before .before .before .before .pre .1, room-rest _ _ _ _ _ _ (left-then _ _ _ _ _ _ _ _ _ (left-same _ _ _ _ _ _ _ (update-opens _ _ _ _ (c .before .before .before .before .before .some-differ .ensures)) (left-all _ _ _)) (c .before .before .before .put-order .ensures)) (update-room _ (c .before .before .before .before .before .before .before .before .before .before .pre .0) _ _)))
+
+same-length : tie.Need-same-length
+same-length c = search needs
+
+returns : tie.Need-returns
+returns c = left-done _ _ _ _ _ _ _ _ (left-then _ _ _ _ _ _ _ _ _ (left-same _ _ _ _ _ _ _ (update-opens _ _ _ _ (c .before .before .before .before .before .before .before .before .some-differ .ensures)) (left-all _ _ _)) (c .before .before .before .before .before .before .put-order .ensures)) (c .before .before .put-body .ensures)
+
+pub put-update-spec : {M : Type 1} → statement M
+put-update-spec =
+    tie.close
+    (tie.spec
+    cast-some-differ
+    some-differ-requires
+    put-order-requires
+    put-body-requires
+    same-length
+    returns)

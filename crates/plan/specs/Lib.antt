@@ -1,0 +1,22 @@
+-- The three streams, and their laws in the modules whose names begin with Laws.
+pub mod Wanted
+pub mod Steps
+pub mod Answers
+pub mod LawsPlanOrders
+pub mod LawsPlanWrote
+pub mod LawsPlanSteps
+pub mod LawsPlanWanted
+pub mod LawsPlanBounds
+pub mod LawsPlan
+pub mod Demands
+pub mod LawsSome
+pub mod LawsWanted
+pub mod LawsSafe
+pub mod LawsSafeRows
+pub mod LawsSafeConfig
+pub mod LawsFits
+pub mod LawsSafeBody
+pub mod LawsUpdate
+pub mod LawsFresh
+pub mod LawsReadBack
+pub mod LawsDemands

@@ -1,0 +1,137 @@
+// The public calls: a stream is judged, counted, and only then written. The count is the writer's own, on a buffer that takes next to nothing.
+use crate::Planned;
+use crate::config::put_config;
+use crate::orders::put_order;
+use crate::orders::put_reads;
+use crate::refusal::fresh_refusal;
+use crate::refusal::update_refusal;
+use crate::rows::put_rows;
+use crate::source::some_differ;
+use device::Device;
+use target::Order;
+use words::ERASED;
+ghost use mathlib.Core.List.{[]};
+ghost use Rattle.device.specs.LawsRecord.{Rules};
+ghost use Rattle.plan.specs.Steps.{updateSteps, freshSteps, readBackSteps};
+ghost use Rattle.plan.specs.Answers.{updateNumber, freshNumber, readBackNumber};
+ghost use Rattle.plan.specs.LawsPlanWanted.{Source};
+ghost use Rattle.plan.specs.LawsPlanWrote.{Wrote, Room};
+ghost use Rattle.plan.specs.LawsPlanSteps.{bodySteps};
+ghost use Rattle.plan.specs.LawsPlan.{Plans};
+
+// The stream that makes a board that holds the reading hold what is wanted: 13, 20 to 24 or 26, or its steps.
+pub fn update(d: Device, image: &[u16], reading: &[u16], out: &mut [u8]) -> Planned
+    ensures { λ r. ⌜ Plans (updateNumber d (now (image .entry)) (now (reading .entry))) (updateSteps d (now (image .entry)) (now (reading .entry))) (now (out .entry)) r (now (out .exit)) ⌝ }
+{
+    let number = update_refusal(d, image, reading);
+    if number != 0 {
+        return Planned { number, steps: 0 };
+    }
+    let mut scratch = [0u8; 1];
+    let need = put_update(&mut scratch, d, image, reading);
+    if out.len() < 3 * need {
+        return Planned {
+            number: 26,
+            steps: 0,
+        };
+    }
+    let steps = put_update(out, d, image, reading);
+    Planned { number: 0, steps }
+}
+
+// The stream that programs any board from nothing: 13, 20, 22 or 26, or its steps.
+pub fn fresh(d: Device, image: &[u16], id_word: u16, out: &mut [u8]) -> Planned
+    ensures { λ r. ⌜ Plans (freshNumber d (now (image .entry)) «id_word») (freshSteps d (now (image .entry))) (now (out .entry)) r (now (out .exit)) ⌝ }
+{
+    let number = fresh_refusal(d, image, id_word);
+    if number != 0 {
+        return Planned { number, steps: 0 };
+    }
+    let mut scratch = [0u8; 1];
+    let need = put_fresh(&mut scratch, d, image);
+    if out.len() < 3 * need {
+        return Planned {
+            number: 26,
+            steps: 0,
+        };
+    }
+    let steps = put_fresh(out, d, image);
+    Planned { number: 0, steps }
+}
+
+// The stream that reads a whole board: 13 or 26, or its steps.
+pub fn read_back(d: Device, out: &mut [u8]) -> Planned
+    ensures { λ r. ⌜ Plans (readBackNumber d) (readBackSteps d) (now (out .entry)) r (now (out .exit)) ⌝ }
+{
+    if device::judge(d) != 0 {
+        return Planned {
+            number: 13,
+            steps: 0,
+        };
+    }
+    let mut scratch = [0u8; 1];
+    let need = put_read_back(&mut scratch, d);
+    if out.len() < 3 * need {
+        return Planned {
+            number: 26,
+            steps: 0,
+        };
+    }
+    let steps = put_read_back(out, d);
+    Planned { number: 0, steps }
+}
+
+// The update's steps, from the first on.
+fn put_update(out: &mut [u8], d: Device, image: &[u16], reading: &[u16]) -> usize
+    requires { ⌜ Rules d ⌝ }
+    requires { ⌜ Source (now image) (now reading) ⌝ }
+    ensures { λ r. ⌜ Wrote (updateSteps d (now (image .entry)) (now (reading .entry))) 0 (now (out .entry)) r (now (out .exit)) ⌝ }
+{
+    let ids = some_differ(image, reading, d.words as usize, 4);
+    let reset = put_order(out, 0, Order::ResetAddress);
+    put_body(out, reset, d, image, reading, true, ids)
+}
+
+// The fresh stream's steps: the empty part of the image stands for the reading that there is not.
+fn put_fresh(out: &mut [u8], d: Device, image: &[u16]) -> usize
+    requires { ⌜ Rules d ⌝ }
+    requires { ⌜ Source (now image) [] ⌝ }
+    ensures { λ r. ⌜ Wrote (freshSteps d (now (image .entry))) 0 (now (out .entry)) r (now (out .exit)) ⌝ }
+{
+    let config = put_order(out, 0, Order::LoadConfiguration(ERASED));
+    let blank = put_order(out, config, Order::BulkErase);
+    let reset = put_order(out, blank, Order::ResetAddress);
+    put_body(out, reset, d, image, &image[..0], false, false)
+}
+
+// What both streams do after their first steps: rows, and then configuration space.
+fn put_body(
+    out: &mut [u8],
+    steps: usize,
+    d: Device,
+    image: &[u16],
+    reading: &[u16],
+    erase: bool,
+    all: bool,
+) -> usize
+    requires { ⌜ Rules d ⌝ }
+    requires { ⌜ Source (now image) (now reading) ⌝ }
+    requires { ⌜ Room (bodySteps d (now image) (now reading) erase all) steps ⌝ }
+    ensures { λ r. ⌜ Wrote (bodySteps d (now (image .entry)) (now (reading .entry)) erase all) steps (now (out .entry)) r (now (out .exit)) ⌝ }
+{
+    let words = d.words as usize;
+    let row = d.row as usize;
+    let program = put_rows(out, steps, image, reading, row, words / row, erase);
+    put_config(out, program, image, reading, words, all)
+}
+
+// The read-back's steps, program words before configuration space.
+fn put_read_back(out: &mut [u8], d: Device) -> usize
+    requires { ⌜ Rules d ⌝ }
+    ensures { λ r. ⌜ Wrote (readBackSteps d) 0 (now (out .entry)) r (now (out .exit)) ⌝ }
+{
+    let reset = put_order(out, 0, Order::ResetAddress);
+    let program = put_reads(out, reset, d.words as usize);
+    let config = put_order(out, program, Order::LoadConfiguration(ERASED));
+    put_reads(out, config, 9)
+}

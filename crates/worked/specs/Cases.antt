@@ -1,0 +1,97 @@
+-- The cases that the paper marks in 'Worked on the bench', each a test that computes, and one statement over all of them.
+use Prim.Native.Nat.{ℕ, zero, suc, _+_}
+use mathlib.Core.Path.{_≡_, refl}
+use mathlib.Core.Bool.{Bool, true, false, _&&_, not}
+use mathlib.Core.List.{List, [], _∷_, _++_}
+use lib.Dec.{eqb, leb}
+use lib.ListN.{length, getD, set, replicate}
+use Rattle.words.specs.Word.{erased, notGiven}
+use Rattle.device.specs.declared.Device.{Device}
+use Rattle.ihex.specs.Reader.{readOf}
+use Rattle.judge.specs.Checksum.{checksumOf}
+use Rattle.plan.specs.Steps.{updateSteps}
+use Rattle.target.specs.Run.{ran}
+use Rattle.target.specs.Stream.{bytesOf}
+use Rattle.target.specs.declared.Order.{Order}
+use Rattle.target.specs.declared.Order.the-variants.{LoadData, Increment, Begin}
+
+-- TINY
+abbrev pub tiny : Device
+tiny = record { id = 0x2a00; words = 16; row = 8; mask1 = 0x3eff; mask2 = 0x3ff3 }
+
+-- a blank TINY board: every word 3FFFh but 8005h and 8006h
+abbrev pub blankTiny : List ℕ
+blankTiny = set (set (replicate 25 erased) 21 0x2000) 22 0x2a00
+
+abbrev pub noImage : List ℕ
+noImage = replicate 25 notGiven
+
+-- the lines of the worked HEX texts, each with its LF
+abbrev pub endLine : List ℕ
+endLine = 58 ∷ 48 ∷ 48 ∷ 48 ∷ 48 ∷ 48 ∷ 48 ∷ 48 ∷ 49 ∷ 70 ∷ 70 ∷ 10 ∷ []
+
+abbrev pub word0Line : List ℕ
+word0Line = 58 ∷ 48 ∷ 50 ∷ 48 ∷ 48 ∷ 48 ∷ 48 ∷ 48 ∷ 48 ∷ 48 ∷ 48 ∷ 51 ∷ 52 ∷ 67 ∷ 65 ∷ 10 ∷ []
+
+abbrev pub upperLine : List ℕ
+upperLine = 58 ∷ 48 ∷ 50 ∷ 48 ∷ 48 ∷ 48 ∷ 48 ∷ 48 ∷ 52 ∷ 48 ∷ 48 ∷ 48 ∷ 49 ∷ 70 ∷ 57 ∷ 10 ∷ []
+
+abbrev pub configLine : List ℕ
+configLine = 58 ∷ 48 ∷ 50 ∷ 48 ∷ 48 ∷ 48 ∷ 69 ∷ 48 ∷ 48 ∷ 55 ∷ 70 ∷ 51 ∷ 70 ∷ 51 ∷ 50 ∷ 10 ∷ []
+
+unfoldable pub same : List ℕ → List ℕ → Bool
+same [] [] = true
+same [] (b ∷ m) = false
+same (a ∷ l) [] = false
+same (a ∷ l) (b ∷ m) = eqb a b && same l m
+
+-- ---- the cases
+
+-- the end record alone gives an empty image; the empty text gives 10
+unfoldable pub endAlone : Bool
+endAlone = eqb (readOf tiny endLine noImage .number) 0 && same (readOf tiny endLine noImage .image) noImage && eqb (readOf tiny [] noImage .number) 10
+
+-- word 0000h is 3400h
+unfoldable pub wordZero : Bool
+wordZero = eqb (readOf tiny (word0Line ++ endLine) noImage .number) 0 && eqb (getD (readOf tiny (word0Line ++ endLine) noImage .image) 0 0) 0x3400
+
+-- 8007h is 3F7Fh
+unfoldable pub configOne : Bool
+configOne =
+    eqb (readOf tiny (upperLine ++ (configLine ++ endLine)) noImage .number) 0
+    && eqb (getD (readOf tiny (upperLine ++ (configLine ++ endLine)) noImage .image) 23 0) 0x3f7f
+
+-- a protected board with user IDs 000Eh, 0008h, 0005h, 0008h, 8007h = 3F7Fh and 8008h = 3FFFh: 66CAh
+abbrev pub protectedBoard : List ℕ
+protectedBoard = replicate 16 erased ++ (0x000e ∷ 0x0008 ∷ 0x0005 ∷ 0x0008 ∷ 0x3fff ∷ 0x2000 ∷ 0x2a00 ∷ 0x3f7f ∷ 0x3fff ∷ [])
+
+unfoldable pub protectedSum : Bool
+protectedSum = eqb (checksumOf tiny protectedBoard) 0x66ca
+
+-- blank TINY: 7EE2h
+unfoldable pub blankSum : Bool
+blankSum = eqb (checksumOf tiny blankTiny) 0x7ee2
+
+-- only row 0 changes: 18 steps; only row 1: 26
+unfoldable pub oneRow : Bool
+oneRow = eqb (length (updateSteps tiny (set noImage 3 0x1234) blankTiny)) 18 && eqb (length (updateSteps tiny (set noImage 11 0x1234) blankTiny)) 26
+
+-- eight loads at 0002h to 0009h and Begin at 0009h write 0008h to 000Fh
+unfoldable pub loadsFrom : ℕ → ℕ → List Order
+loadsFrom n zero = []
+loadsFrom n (suc zero) = LoadData n ∷ Begin ∷ []
+loadsFrom n (suc (suc k)) = LoadData n ∷ Increment ∷ loadsFrom (n + 1) (suc k)
+
+unfoldable pub acrossRows : Bool
+acrossRows =
+    same (ran tiny (bytesOf (Increment ∷ Increment ∷ loadsFrom 0x102 8)) 100 (blankTiny ++ (erased ∷ erased ∷ [])) [] .target .cells)
+    (replicate 8 erased ++ (0x108 ∷ 0x109 ∷ 0x102 ∷ 0x103 ∷ 0x104 ∷ 0x105 ∷ 0x106 ∷ 0x107 ∷ [])
+    ++ (erased ∷ erased ∷ erased ∷ erased ∷ erased ∷ 0x2000 ∷ 0x2a00 ∷ erased ∷ erased ∷ erased ∷ erased ∷ []))
+
+-- all of them
+unfoldable pub cases : List Bool
+cases = endAlone ∷ wordZero ∷ configOne ∷ protectedSum ∷ blankSum ∷ oneRow ∷ acrossRows ∷ []
+
+unfoldable pub allHold : List Bool → Bool
+allHold [] = true
+allHold (b ∷ l) = b && allHold l

@@ -1,0 +1,3 @@
+-- The worked cases of the paper, and that all of them hold.
+pub mod Cases
+pub mod LawsWorked
