@@ -22,7 +22,7 @@ use Rattle.words.specs.LawsWord.{is-word}
 use Rattle.words.specs.LawsAddress.{halved-doubled, entry-of-address}
 use Rattle.words.specs.declared.ByteAddress.{ByteAddress}
 use Rattle.device.specs.declared.Device.{Device}
-use Rattle.device.specs.Record.{deviceOk}
+use Rattle.device.specs.Record.{mostWords, deviceOk}
 use Rattle.device.specs.Memory.{readingTail, imageOk}
 use Rattle.device.specs.LawsRecord.{Rules, rules, words-eighths}
 use Rattle.device.specs.LawsMemory.{image-long, image-each, entry-word}
@@ -204,7 +204,7 @@ module _ (image : List ℕ) where
       rw (two, e) (word-high n (i + 1) j (le-of-suc-le-suc h))
 
 -- a run of a sound image
-module _ (words : ℕ) (image : List ℕ) (s e : ℕ) (eighths : words % 8 ≡ 0) (m : words ≤ 8192) (ok : imageOk words image ≡ true) (r : Run words image s e) where
+module _ (words : ℕ) (image : List ℕ) (s e : ℕ) (eighths : words % 8 ≡ 0) (m : words ≤ mostWords) (ok : imageOk words image ≡ true) (r : Run words image s e) where
   few : e ≤ s + 8
   few = let p : s < e = r .some in let q : (e - 1) / 8 ≡ s / 8 = r .block (e - 1) (omega arith) (omega arith) in omega arith
 
@@ -287,7 +287,7 @@ module _ (words : ℕ) (image : List ℕ) (s e : ℕ) (eighths : words % 8 ≡ 0
     entry-back j h =
         let far : e ≤ words + 9 = r .within in
         let w : hexAddress words (s + j) ≡ 2 * addressOf configBase words (s + j) = unfold hexAddress in refl in
-        let b : hexAddress words (s + j) < 131072 = hex-below words (s + j) m (omega arith) in
+        let b : hexAddress words (s + j) < 0x20000 = hex-below words (s + j) m (omega arith) in
         rw (address-back j h, halved-doubled (record { 0 = addressOf configBase words (s + j) }) (omega arith))
         (entry-of-address configBase words readingTail (s + j) (omega arith) (omega arith))
 
@@ -333,7 +333,7 @@ module _ (words : ℕ) (image : List ℕ) (s e : ℕ) (eighths : words % 8 ≡ 0
 
 -- ---- the whole text
 
-module _ (words : ℕ) (image : List ℕ) (eighths : words % 8 ≡ 0) (m : words ≤ 8192) (ok : imageOk words image ≡ true) where
+module _ (words : ℕ) (image : List ℕ) (eighths : words % 8 ≡ 0) (m : words ≤ mostWords) (ok : imageOk words image ≡ true) where
   -- a run's lines: the upper half where it changes, and the data
   read-run : (upper s e : ℕ) (rest : List ℕ) → Run words image s e → Dec (upperOf words s ≡ upper)
       → ((k : ℕ) → readLines words (linesOf rest) k (reading (upperOf words s) (upTo (words + 9) image e)) ≡ record { number = 0; line = 0; image = image })
@@ -367,7 +367,7 @@ pub round-trip : (d : Device) (image buffer : List ℕ) → deviceOk d ≡ true 
 unfolding readOf
 round-trip d image buffer sound ok long =
     let keeps : Rules d = rules d sound in
-    let short : length (hexText (d .words) image) < 131072 = text-fits (d .words) image (keeps .most) in
+    let short : length (hexText (d .words) image) < mostText = text-fits (d .words) image (keeps .most) in
     pick-true (deviceOk d) _ _ sound
     ∙ (pick-true (eqb (length buffer) (d .words + readingTail)) _ _ (eq-eqb (length buffer) (d .words + readingTail) long)
     ∙ (pick-true (leb (length (hexText (d .words) image)) mostText) _ _ (le-leb (length (hexText (d .words) image)) mostText (omega arith))

@@ -16,11 +16,12 @@ use Rattle.words.specs.LawsHex.{length-byte-text}
 use Rattle.words.specs.declared.ByteAddress.{ByteAddress}
 use Rattle.device.specs.declared.Device.{Device}
 use Rattle.ihex.specs.declared.WrittenHex.{WrittenHex}
+use Rattle.ihex.specs.Reader.{mostText}
 use Rattle.ihex.specs.Writer.{runEnd, nextStart, sumOf, digitsOf, recordText, hexAddress, upperBytes, writtenHex, writtenOut}
 
--- no text that is written is longer
+-- no text that is written is longer than the reader takes
 abbrev pub textLimit : ℕ
-textLimit = 131072
+textLimit = mostText
 
 -- the call's promise
 pub record WroteHex (d : Device) (image out : List ℕ) (r : WrittenHex) (after : List ℕ) : Type 0 where
@@ -38,7 +39,7 @@ pub record Wrote (text : List ℕ) (at : ℕ) (out : List ℕ) (r : ℕ) (after 
 -- the byte address of an entry
 pub record Addressed (words i : ℕ) (r : ByteAddress) : Type 0 where
   pub is : r .0 ≡ hexAddress words i
-  pub below : r .0 < 131072
+  pub below : r .0 < 0x20000
 
 -- what an entry does to a run
 pub record CutAt (image : List ℕ) (s i stop next : ℕ) : Type 0 where

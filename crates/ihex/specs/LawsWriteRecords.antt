@@ -9,13 +9,14 @@ use mathlib.Core.List.{List, [], _++_, append-nil}
 use lib.ListN.{getD}
 use borrow.Author.Count.{below-more}
 use Rattle.words.specs.Word.{notGiven}
+use Rattle.device.specs.Record.{mostWords}
 use Rattle.ihex.specs.Writer.{recordText, hexAddress, upperOf, dataBytes, runText, upperAfter, runEnd, nextStart, textFrom}
 use Rattle.ihex.specs.LawsWrite.{upperText}
 use Rattle.ihex.specs.LawsWriteRun.{Seen, seen, gap, full, goes, run-some, run-none, after-some, after-none, hex-program, hex-config}
 
 -- ---- blocks of sixteen bytes are blocks of eight entries, since P is a multiple of 8
 
-module _ (words i j : ℕ) (eighths : words % 8 ≡ 0) (m : words ≤ 8192) where
+module _ (words i j : ℕ) (eighths : words % 8 ≡ 0) (m : words ≤ mostWords) where
   pub same-block : i / 8 ≡ j / 8 → hexAddress words i / 16 ≡ hexAddress words j / 16
   same-block e = by (decLt i words) (decLt j words)
     where
@@ -59,7 +60,7 @@ pub record Run (words : ℕ) (image : List ℕ) (s e : ℕ) : Type 0 where
   pub no-later : (e % 8 ≡ 0) ⊎ ((e ≡ words + 9) ⊎ (getD image e 0 ≡ notGiven))
 
 -- the bytes of a run stand in one aligned block of sixteen
-pub run-bytes : (words : ℕ) (image : List ℕ) (s e k : ℕ) → words % 8 ≡ 0 → words ≤ 8192 → Run words image s e → s ≤ k → k < e → hexAddress words k / 16 ≡ hexAddress words s / 16
+pub run-bytes : (words : ℕ) (image : List ℕ) (s e k : ℕ) → words % 8 ≡ 0 → words ≤ mostWords → Run words image s e → s ≤ k → k < e → hexAddress words k / 16 ≡ hexAddress words s / 16
 run-bytes words image s e k eighths m r p q = same-block words k s eighths m (r .block k p q)
 
 -- no word is given from `from` up to `to`

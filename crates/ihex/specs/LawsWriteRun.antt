@@ -16,6 +16,7 @@ use Rattle.words.specs.declared.ByteAddress.{ByteAddress}
 use Rattle.words.specs.declared.WordAddress.{WordAddress}
 use Rattle.words.specs.declared.Place.{Place}
 use Rattle.words.specs.declared.Place.the-variants.{At, Nowhere}
+use Rattle.device.specs.Record.{mostWords}
 use Rattle.ihex.specs.Writer.{recordText, hexAddress, upperOf, wordBytes, dataBytes, upperBytes, runText, upperAfter, runEnd, nextStart}
 use Rattle.ihex.specs.LawsWrite.{CutAt, Wrote, Left, Addressed, upperText, left-as, left-then, left-done, left-part, wrote-none}
 
@@ -31,14 +32,14 @@ module _ (words i : ℕ) where
   unfolding hexAddress
   hex-config h = rw (address-config configBase words i h) (omega arith)
 
-  pub hex-below : words ≤ 8192 → i ≤ words + 9 → hexAddress words i < 131072
+  pub hex-below : words ≤ mostWords → i ≤ words + 9 → hexAddress words i < 0x20000
   hex-below m h = by (decLt i words)
     where
-      by : Dec (i < words) → hexAddress words i < 131072
+      by : Dec (i < words) → hexAddress words i < 0x20000
       by (yes p) = rw (hex-program p) (omega arith)
       by (no p) = rw (hex-config (omega arith)) (omega arith)
 
-  pub upper-program : words ≤ 8192 → i < words → upperOf words i ≡ 0
+  pub upper-program : words ≤ mostWords → i < words → upperOf words i ≡ 0
   unfolding upperOf
   upper-program m h = rw (hex-program h) (omega arith)
 
@@ -46,12 +47,12 @@ module _ (words i : ℕ) where
   unfolding upperOf
   upper-config p h = rw (hex-config p) (omega arith)
 
-  pub upper-most : words ≤ 8192 → i ≤ words + 9 → upperOf words i ≤ 1
+  pub upper-most : words ≤ mostWords → i ≤ words + 9 → upperOf words i ≤ 1
   unfolding upperOf
-  upper-most m h = let b : hexAddress words i < 131072 = hex-below m h in omega arith
+  upper-most m h = let b : hexAddress words i < 0x20000 = hex-below m h in omega arith
 
 -- the upper half never falls
-pub upper-rises : (words i j : ℕ) → words ≤ 8192 → i ≤ j → j ≤ words + 9 → upperOf words i ≤ upperOf words j
+pub upper-rises : (words i j : ℕ) → words ≤ mostWords → i ≤ j → j ≤ words + 9 → upperOf words i ≤ upperOf words j
 upper-rises words i j m p h = by (decLt i words)
   where
     by : Dec (i < words) → upperOf words i ≤ upperOf words j
@@ -59,7 +60,7 @@ upper-rises words i j m p h = by (decLt i words)
     by (no q) = rw (upper-config words i (omega arith) (omega arith), upper-config words j (omega arith) h) (omega arith)
 
 -- the code's way: the entry's place, and its byte address
-module _ {words i : ℕ} (m : words ≤ 8192) (h : i < words + 9) where
+module _ {words i : ℕ} (m : words ≤ mostWords) (h : i < words + 9) where
   pub address-at : {p : Place} {a : WordAddress} {r : ByteAddress} → p ≡ At a → p ≡ placeOf 0x8000 words 9 i → r ≡ doubled a → Addressed words i r
   unfolding doubled
   address-at {p} {a} {r} t e d = record { is = here; below = rw here (hex-below words i m (omega arith)) }

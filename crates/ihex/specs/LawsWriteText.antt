@@ -11,7 +11,7 @@ use borrow.Author.Tests.{lt-ltb, le-ltb, le-leb, lt-leb, eq-eqb, ne-eqb}
 use Rattle.words.specs.Choice.{pick}
 use Rattle.words.specs.LawsChoice.{pick-true, pick-false}
 use Rattle.device.specs.declared.Device.{Device}
-use Rattle.device.specs.Record.{deviceOk, recordNumber}
+use Rattle.device.specs.Record.{mostWords, deviceOk, recordNumber}
 use Rattle.device.specs.Memory.{imageOk}
 use Rattle.device.specs.LawsRecord.{rules-of-judged, ok-of-judged, bad-of-judged}
 use Rattle.device.specs.LawsMemory.{image-long}
@@ -75,7 +75,7 @@ run-cost words image upper s e h p q =
     let all : length (upperText upper (upperOf words s) ++ recordText (dataBytes words image s e)) ≡ length (upperText upper (upperOf words s)) + length (recordText (dataBytes words image s e)) = length-append (upperText upper (upperOf words s)) (recordText (dataBytes words image s e)) in
     rw (run-some words image upper s e h) (omega arith)
 
-module _ (words : ℕ) (image : List ℕ) (m : words ≤ 8192) where
+module _ (words : ℕ) (image : List ℕ) (m : words ≤ mostWords) where
   abbrev Bound : (n upper s i : ℕ) → Type 0
   Bound n upper s i = length (textFrom words image n upper s i) ≤ 14 * n + held s i + 16 * (1 - upper)
 
@@ -169,7 +169,7 @@ module _ (words : ℕ) (image : List ℕ) (m : words ≤ 8192) where
       omega arith
 
   -- the reader takes every text that is written: refusal 1 never holds for one
-  pub text-fits : length (hexText words image) < 131072
+  pub text-fits : length (hexText words image) < textLimit
   text-fits = let l : length (hexText words image) ≤ 14 * words + 156 = text-length in omega arith
 
 -- ---- the loop over the entries
@@ -219,7 +219,7 @@ next-block image s i low block (goes g z x y) =
         by (yes q) = absurd (n (omega arith))
         by (no q) = let less : k % 8 < 7 = lib.Arith.lt-of-le-ne (omega arith) q in omega arith
 
-module _ (words : ℕ) (image before : List ℕ) (upper s at i : ℕ) (out : List ℕ) (m : words ≤ 8192) (turn : Turn words image before upper s at i out) where
+module _ (words : ℕ) (image before : List ℕ) (upper s at i : ℕ) (out : List ℕ) (m : words ≤ mostWords) (turn : Turn words image before upper s at i out) where
   module _ (h : i < words + 9) (stop : ℕ) (e : stop ≡ runEnd image s i) where
     next : Left (textFrom words image (words + 9) 0 0 0) 0 before (runText words image upper s (runEnd image s i) ++ textFrom words image (words + 9 - (i + 1)) (upperAfter words upper s (runEnd image s i)) (nextStart image s i) (i + 1)) at out
     next = left-same (text-next words image upper s i h) (turn .left)
@@ -261,7 +261,7 @@ module _ (words : ℕ) (image before : List ℕ) (upper s at i : ℕ) (out : Lis
 
 -- ---- the end record
 
-module _ (words : ℕ) (image out : List ℕ) (at : ℕ) (mid : List ℕ) (m : words ≤ 8192) (w : Wrote (textFrom words image (words + 9) 0 0 0) 0 out at mid) where
+module _ (words : ℕ) (image out : List ℕ) (at : ℕ) (mid : List ℕ) (m : words ≤ mostWords) (w : Wrote (textFrom words image (words + 9) 0 0 0) 0 out at mid) where
   pub end-room : (l : List ℕ) → length l ≡ 4 → at + length (recordText l) ≤ textLimit
   end-room l four =
       let n : length (textFrom words image (words + 9) 0 0 0) ≤ 14 * words + 144 = entries-length words image m in
@@ -278,7 +278,7 @@ module _ (words : ℕ) (image out : List ℕ) (at : ℕ) (mid : List ℕ) (m : w
 -- ---- the call's answers
 
 -- what the first two tests tell
-pub judged-sound : (d : Device) (image : List ℕ) (number : ℕ) (b : Bool) → number ≡ recordNumber d → number ≡ 0 → b ≡ imageOk (d .words) image → b ≡ true → (d .words ≤ 8192) × (length image ≡ d .words + 9)
+pub judged-sound : (d : Device) (image : List ℕ) (number : ℕ) (b : Bool) → number ≡ recordNumber d → number ≡ 0 → b ≡ imageOk (d .words) image → b ≡ true → (d .words ≤ mostWords) × (length image ≡ d .words + 9)
 judged-sound d image number b judged sound e t = (rules-of-judged d (sym judged ∙ sound) .most, image-long (d .words) image (sym e ∙ t))
 
 module _ (d : Device) (image out : List ℕ) (number : ℕ) (judged : number ≡ recordNumber d) where

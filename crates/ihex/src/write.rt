@@ -8,6 +8,7 @@ use device::Device;
 ghost use mathlib.Core.Path.{_≡_};
 ghost use Prim.Native.Nat.{_+_, _≤_};
 ghost use lib.ListN.{length};
+ghost use Rattle.device.specs.Record.{mostWords};
 ghost use Rattle.ihex.specs.Writer.{textFrom, hexText};
 ghost use Rattle.ihex.specs.LawsWrite.{Wrote, WroteHex, refusedWith};
 
@@ -40,7 +41,7 @@ fn refusal(number: u8) -> WrittenHex
 
 // Puts the whole text, as far as there is room; answers its length.
 fn put_text(out: &mut [u8], words: u16, image: &[u16]) -> usize
-    requires { ⌜ (words ≤ 8192) × (length (now image) ≡ words + 9) ⌝ }
+    requires { ⌜ (words ≤ mostWords) × (length (now image) ≡ words + 9) ⌝ }
     ensures { λ r. ⌜ Wrote (hexText words (now (image .entry))) 0 (now (out .entry)) r (now (out .exit)) ⌝ }
 {
     let end: [u8; 4] = [0, 0, 0, 1];
@@ -50,7 +51,7 @@ fn put_text(out: &mut [u8], words: u16, image: &[u16]) -> usize
 
 // Puts the records of all runs, entry by entry.
 fn put_entries(out: &mut [u8], words: u16, image: &[u16]) -> usize
-    requires { ⌜ (words ≤ 8192) × (length (now image) ≡ words + 9) ⌝ }
+    requires { ⌜ (words ≤ mostWords) × (length (now image) ≡ words + 9) ⌝ }
     ensures { λ r. ⌜ Wrote (textFrom words (now (image .entry)) (words + 9) 0 0 0) 0 (now (out .entry)) r (now (out .exit)) ⌝ }
 {
     let mut upper: u16 = 0;

@@ -9,6 +9,7 @@ ghost use mathlib.Core.Path.{_≡_};
 ghost use Prim.Native.Nat.{_+_, _-_, _/_, _≤_, _<_};
 ghost use lib.ListN.{length};
 ghost use lib.Seq.{sets};
+ghost use Rattle.device.specs.Record.{mostWords};
 ghost use Rattle.ihex.specs.Writer.{runText, upperAfter, recordText, dataBytes, wordBytes};
 ghost use Rattle.ihex.specs.LawsWrite.{textLimit, Wrote, Addressed, CutAt, upperText};
 
@@ -49,7 +50,7 @@ pub(crate) fn cut_at(image: &[u16], start: usize, i: usize) -> Cut
 
 // The upper half after a run: the run's own, if it has any word.
 pub(crate) fn upper_after(words: u16, upper: u16, start: usize, stop: usize) -> u16
-    requires { ⌜ (words ≤ 8192) × (stop ≤ words + 9) ⌝ }
+    requires { ⌜ (words ≤ mostWords) × (stop ≤ words + 9) ⌝ }
     ensures { λ r. ⌜ r ≡ upperAfter words upper start stop ⌝ }
 {
     if start < stop {
@@ -68,7 +69,7 @@ pub(crate) fn put_run(
     start: usize,
     stop: usize,
 ) -> usize
-    requires { ⌜ (words ≤ 8192) × (length (now image) ≡ words + 9) × (stop ≤ words + 9) × (stop ≤ start + 8)
+    requires { ⌜ (words ≤ mostWords) × (length (now image) ≡ words + 9) × (stop ≤ words + 9) × (stop ≤ start + 8)
         × (at + length (runText words (now image) upper start stop) ≤ textLimit) ⌝ }
     ensures { λ r. ⌜ Wrote (runText words (now (image .entry)) upper start stop) at (now (out .entry)) r (now (out .exit)) ⌝ }
 {
@@ -81,7 +82,7 @@ pub(crate) fn put_run(
 
 // The byte address at which an entry's word begins.
 fn hex_address(words: u16, entry: usize) -> ByteAddress
-    requires { ⌜ (words ≤ 8192) × (entry < words + 9) ⌝ }
+    requires { ⌜ (words ≤ mostWords) × (entry < words + 9) ⌝ }
     ensures { λ r. ⌜ Addressed words entry r ⌝ }
 {
     match words::address::address_of(WordAddress(CONFIG_BASE), words, 9, entry) {
@@ -92,7 +93,7 @@ fn hex_address(words: u16, entry: usize) -> ByteAddress
 
 // The upper half of a byte address.
 fn upper_half(address: ByteAddress) -> u16
-    requires { ⌜ address .0 < 131072 ⌝ }
+    requires { ⌜ address .0 < 0x20000 ⌝ }
     ensures { λ r. ⌜ r ≡ address .0 / 65536 ⌝ }
 {
     (address.0 / 65536) as u16
@@ -119,7 +120,7 @@ fn put_data(
     start: usize,
     stop: usize,
 ) -> usize
-    requires { ⌜ (words ≤ 8192) × (length (now image) ≡ words + 9) × (stop ≤ words + 9) × (start < stop) × (stop ≤ start + 8)
+    requires { ⌜ (words ≤ mostWords) × (length (now image) ≡ words + 9) × (stop ≤ words + 9) × (start < stop) × (stop ≤ start + 8)
         × (at + length (recordText (dataBytes words (now image) start stop)) ≤ textLimit) ⌝ }
     ensures { λ r. ⌜ Wrote (recordText (dataBytes words (now (image .entry)) start stop)) at (now (out .entry)) r (now (out .exit)) ⌝ }
 {
@@ -131,7 +132,7 @@ fn put_data(
 
 // Fills in the bytes of a data record, all but its sum.
 fn fill_data(bytes: &mut [u8], words: u16, image: &[u16], start: usize, stop: usize)
-    requires { ⌜ (words ≤ 8192) × (length (now image) ≡ words + 9) × (stop ≤ words + 9) × (start < stop) × (stop ≤ start + 8) ⌝ }
+    requires { ⌜ (words ≤ mostWords) × (length (now image) ≡ words + 9) × (stop ≤ words + 9) × (start < stop) × (stop ≤ start + 8) ⌝ }
     ensures { λ _. ⌜ now (bytes .exit) ≡ sets (now (bytes .entry)) 0 (dataBytes words (now (image .entry)) start stop) ⌝ }
 {
     let address = hex_address(words, start).0;
@@ -144,7 +145,7 @@ fn fill_data(bytes: &mut [u8], words: u16, image: &[u16], start: usize, stop: us
 
 // Fills in the words, low byte first, after the four bytes that come before them.
 fn fill_words(bytes: &mut [u8], image: &[u16], start: usize, stop: usize)
-    requires { ⌜ (start ≤ stop) × (stop ≤ length (now image)) × (length (now image) ≤ 8201) ⌝ }
+    requires { ⌜ (start ≤ stop) × (stop ≤ length (now image)) × (length (now image) ≤ mostWords + 9) ⌝ }
     ensures { λ _. ⌜ now (bytes .exit) ≡ sets (now (bytes .entry)) 4 (wordBytes (stop - start) start (now (image .entry))) ⌝ }
 {
     let mut i = start;
