@@ -13,10 +13,12 @@ use Rattle.bytes.specs.Bytes.{indexOf, slice}
 use Rattle.words.specs.Choice.{pick}
 use Rattle.words.specs.LawsChoice.{pick-true, pick-false, first-holds, second-holds, first-fails, second-fails, true-not-false}
 use Rattle.device.specs.declared.Device.{Device}
-use Rattle.words.specs.Text.{lf, split}
+use Rattle.words.specs.Text.{tab, lf, split}
+use Rattle.words.specs.Decimal.{isDecimal}
+use Rattle.device.specs.Record.{deviceOk}
 use Rattle.words.specs.LawsText.{part, part-found, part-last, some-piece}
 use Rattle.device.specs.LawsLine.{LineRead}
-use Rattle.device.specs.Table.{butLast, lastOf, field, deviceOf, lineOk, idOf, linesOf, endsInLf, allLinesOk, hasId, idsOnce, tableOk, tableNumber, lineWith, startOf, refused, given, foundIn}
+use Rattle.device.specs.Table.{butLast, lastOf, field, nameOk, hexOk, deviceOf, lineOk, idOf, linesOf, endsInLf, allLinesOk, hasId, idsOnce, tableOk, tableNumber, lineWith, startOf, refused, given, foundIn}
 
 -- ---- all pieces but the last, and the last
 
@@ -306,6 +308,22 @@ module _ (text : List ℕ) (id : ℕ) where
       let start : at ≡ startOf id (linesOf text) = s .start y in
       (λ i. record { number = 0; device = dev i; «name_at» = start i; «name_len» = nam i })
       ∙ sym (pick-true (tableOk text) _ _ t ∙ pick-true (hasId id (linesOf text)) _ _ has)
+
+-- the device of a sound line keeps the rules of a record
+line-device : (line : List ℕ) → lineOk line ≡ true → deviceOk (deviceOf line) ≡ true
+unfolding lineOk
+line-device line e =
+    second-holds
+    (eqb (length (split tab line)) 6 && nameOk (field 0 line) && hexOk (field 1 line) && isDecimal (field 2 line) && isDecimal (field 3 line) && hexOk (field 4 line) && hexOk (field 5 line))
+    (deviceOk (deviceOf line)) e
+
+-- and so does each record that is found
+pub found-sound : (text : List ℕ) (id : ℕ) → tableOk text ≡ true → hasId id (linesOf text) ≡ true → deviceOk (foundIn text id .device) ≡ true
+unfolding foundIn
+found-sound text id t has =
+    let same : foundIn text id ≡ given (startOf id (linesOf text)) (lineWith id (linesOf text)) = pick-true (tableOk text) _ _ t ∙ pick-true (hasId id (linesOf text)) _ _ has in
+    ap (λ x. deviceOk (x .device)) same
+    ∙ (unfold given in line-device (lineWith id (linesOf text)) (line-with-ok id (linesOf text) (lines-ok text t) has))
 
 -- ---- one turn of the table's test, by what the code's parts answer
 

@@ -1,0 +1,7 @@
+-- What the bench's programs print, and its laws in the modules whose names begin with Laws.
+pub mod Print
+pub mod Open
+pub mod Programs
+pub mod LawsPrint
+pub mod LawsOpen
+pub mod LawsPrograms

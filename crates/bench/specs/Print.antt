@@ -1,0 +1,33 @@
+-- How numbers and refusals are printed ('Worked on the bench', 'Refusal numbers'). Text is a list of bytes.
+use Prim.Native.Nat.{ℕ, zero, suc, _+_, _/_, _%_}
+use mathlib.Core.Path.{_≡_}
+use mathlib.Core.List.{List, [], _∷_, _++_}
+use lib.Dec.{ltb}
+use lib.ListN.{length}
+use lib.Seq.{sets}
+use Rattle.words.specs.Choice.{pick}
+use Rattle.words.specs.Text.{tab, lf}
+
+-- the decimal digits of a number, at most n of them, most significant first
+unfoldable pub digits : (n number : ℕ) → List ℕ
+digits zero number = []
+digits (suc n) number = pick (ltb number 10) ((0x30 + number) ∷ []) (digits n (number / 10) ++ ((0x30 + number % 10) ∷ []))
+
+-- a number of 32 bits in decimal, without a leading zero
+unfoldable pub decimalText : ℕ → List ℕ
+decimalText number = digits 10 number
+
+-- 'refused', the number, the line number, tabs between
+unfoldable pub refusedText : (number line : ℕ) → List ℕ
+refusedText number line =
+    0x72 ∷ 0x65 ∷ 0x66 ∷ 0x75 ∷ 0x73 ∷ 0x65 ∷ 0x64 ∷ tab ∷ (decimalText number ++ tab ∷ (decimalText line ++ lf ∷ []))
+
+-- a text stored from a place on, as far as there is room, and where it ends
+pub record Wrote (at : ℕ) (text out : List ℕ) (r : ℕ) (out′ : List ℕ) : Type 0 where
+  pub end : r ≡ at + length text
+  pub bytes : out′ ≡ sets out at text
+
+-- what a program prints: the length of the whole text, stored as far as there is room
+pub record Prints (text out : List ℕ) (r : ℕ) (out′ : List ℕ) : Type 0 where
+  pub count : r ≡ length text
+  pub stored : out′ ≡ sets out 0 text

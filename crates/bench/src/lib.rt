@@ -1,0 +1,8 @@
+// What each program of the bench does, as one function on slices: files in, text out. No public call here has a `requires`.
+mod board;
+mod checksums;
+mod print;
+mod verdicts;
+
+pub use checksums::checksum;
+pub use verdicts::verify;
