@@ -1,8 +1,4 @@
 // Prints how a board's sheet differs from the wanted one, or why it is refused: device.tab, board.txt and wanted.txt, or the three files that the arguments name.
-mod files;
-
-use libc::STDOUT_FILENO;
-
 fn main() {
     let mut table = io::buffer();
     let t = files::load(1, b"device.tab", &mut table);
@@ -12,14 +8,5 @@ fn main() {
     let w = files::load(3, b"wanted.txt", &mut wanted);
     let mut out = [0u8; 64];
     let n = bench::verify(&table[..t], &sheet[..s], &wanted[..w], &mut out);
-    show(&out, n);
-}
-
-// Writes the text to standard output, and says on standard error if that fails.
-fn show(out: &[u8], n: usize) {
-    if n <= out.len() {
-        if io::write_all(STDOUT_FILENO, &out[..n]) {} else {
-            os::fail(b"write");
-        }
-    }
+    files::show(&out, n);
 }

@@ -2,8 +2,8 @@
 use mathlib.Core.Path.{sym}
 use lib.Seq.{length-take-le}
 use borrow.Author.Needs.{needs}
-use Rattle.checksum.proofs.show.Statement.{statement}
-use Rattle.checksum.proofs.show.Tie as tie
+use Rattle.files.proofs.show.Statement.{statement}
+use Rattle.files.proofs.show.Tie as tie
 
 slice-aggregate-write-all : tie.Need-slice-aggregate-write-all
 slice-aggregate-write-all c = sym (length-take-le _ _ (c .before .if1 .taken))

@@ -1,8 +1,9 @@
-// The files that a program reads: each whole, or nothing of it.
+// What stands around a program's call: its files are read, each whole or nothing of it, and its text is written.
+use libc::STDOUT_FILENO;
 ghost use Rattle.io.specs.Counts.{Counts};
 
 // Reads the file that an argument names, or else the one of this name. One that cannot be opened or read, or has more bytes than the buffer, counts as empty.
-pub(crate) fn load(argument: usize, name: &[u8], buffer: &mut [u8]) -> usize
+pub fn load(argument: usize, name: &[u8], buffer: &mut [u8]) -> usize
     ensures { λ r. ⌜ Counts r (now (buffer .exit)) ⌝ }
 {
     let fd = open_file(argument, name);
@@ -29,4 +30,13 @@ fn open_file(argument: usize, name: &[u8]) -> i32 {
         return os::open_read(name);
     }
     os::open_read(&path[..n])
+}
+
+// Writes the text to standard output, and says on standard error if that fails.
+pub fn show(out: &[u8], n: usize) {
+    if n <= out.len() {
+        if io::write_all(STDOUT_FILENO, &out[..n]) {} else {
+            os::fail(b"write");
+        }
+    }
 }
