@@ -21,7 +21,7 @@ use Rattle.device.specs.declared.Device.{Device}
 use Rattle.device.specs.Record.{deviceOk}
 use Rattle.device.specs.Memory.{readingTail}
 use Rattle.ihex.specs.Line.{withoutCr, allWithoutCr, linesOf, countOf, typeOf, lineNumber}
-use Rattle.ihex.specs.Reader.{mostText, Reading, giveWords, recordStep, lineRefused, lineStep, blankImage, Outcome, refusedAt, readLines, begun, readOf, readAnswer}
+use Rattle.ihex.specs.Reader.{mostText, Reading, giveWords, recordStep, lineRefused, lineStep, blankImage, Outcome, refusedAt, readLines, begun, readOf, readAnswer, HexRead}
 use Rattle.ihex.specs.LawsLine.{ByteRead, Ended}
 use Rattle.ihex.specs.LawsGive.{reading}
 use Rattle.ihex.specs.declared.ReadHex.{ReadHex}
@@ -280,11 +280,6 @@ module _ (image₀ : List ℕ) where
         c .entries ∙ (rw (all, drop-length image₀) (append-nil (replicate (length image₀) notGiven)))
 
 -- ---- the call
-
--- what the call promises: its answer, and the image that it leaves
-pub record HexRead (d : Device) (text image : List ℕ) (r : ReadHex) (image′ : List ℕ) : Type 0 where
-  pub answer : r ≡ readAnswer d text image
-  pub image-is : image′ ≡ readOf d text image .image
 
 -- a refused text leaves the image blank
 pub refused-blank : (words : ℕ) (ls : List (List ℕ)) (k : ℕ) (r : Reading) → (readLines words ls k r .number ≡ 0 → ⊥) → readLines words ls k r .image ≡ blankImage words

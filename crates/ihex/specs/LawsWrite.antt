@@ -17,16 +17,11 @@ use Rattle.words.specs.declared.ByteAddress.{ByteAddress}
 use Rattle.device.specs.declared.Device.{Device}
 use Rattle.ihex.specs.declared.WrittenHex.{WrittenHex}
 use Rattle.ihex.specs.Reader.{mostText}
-use Rattle.ihex.specs.Writer.{runEnd, nextStart, sumOf, digitsOf, recordText, hexAddress, upperBytes, writtenHex, writtenOut}
+use Rattle.ihex.specs.Writer.{runEnd, nextStart, sumOf, digitsOf, recordText, hexAddress, upperBytes, writtenHex, writtenOut, WroteHex}
 
 -- no text that is written is longer than the reader takes
 abbrev pub textLimit : ℕ
 textLimit = mostText
-
--- the call's promise
-pub record WroteHex (d : Device) (image out : List ℕ) (r : WrittenHex) (after : List ℕ) : Type 0 where
-  pub answer : r ≡ writtenHex d image out
-  pub bytes : after ≡ writtenOut d image out
 
 abbrev pub refusedWith : ℕ → WrittenHex
 refusedWith n = record { number = n; length = 0 }

@@ -16,8 +16,8 @@ use Rattle.device.specs.Memory.{imageOk}
 use Rattle.device.specs.LawsRecord.{rules-of-judged, ok-of-judged, bad-of-judged}
 use Rattle.device.specs.LawsMemory.{image-long}
 use Rattle.ihex.specs.declared.WrittenHex.{WrittenHex}
-use Rattle.ihex.specs.Writer.{recordText, upperOf, dataBytes, upperBytes, endBytes, runText, upperAfter, runEnd, nextStart, textFrom, hexText, writtenHex, writtenOut}
-use Rattle.ihex.specs.LawsWrite.{Wrote, WroteHex, Left, upperText, textLimit, refusedWith, left-all, left-then, left-done, left-part, left-last, length-record}
+use Rattle.ihex.specs.Writer.{recordText, upperOf, dataBytes, upperBytes, endBytes, runText, upperAfter, runEnd, nextStart, textFrom, hexText, writtenHex, writtenOut, WroteHex}
+use Rattle.ihex.specs.LawsWrite.{Wrote, Left, upperText, textLimit, refusedWith, left-all, left-then, left-done, left-part, left-last, length-record}
 use Rattle.ihex.specs.LawsWriteRun.{Seen, seen, gap, full, goes, run-some, run-none, after-some, after-none, upper-same, upper-new, upper-most, upper-rises, length-data}
 
 -- ---- the text's length

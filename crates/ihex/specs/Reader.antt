@@ -1,5 +1,6 @@
 -- Reading HEX text into an image ('HEX text'; refusals 13, 12, 1, then line by line 11, 2 to 9, last 10).
 use Prim.Native.Nat.{ℕ, zero, suc, _+_, _*_, _/_}
+use mathlib.Core.Path.{_≡_}
 use mathlib.Core.Bool.{Bool, true, false, _&&_, _||_, not}
 use mathlib.Core.List.{List, [], _∷_}
 use lib.Dec.{ltb, leb, eqb}
@@ -126,3 +127,8 @@ readOf d text image =
 -- what the call answers
 unfoldable pub readAnswer : Device → (text image : List ℕ) → ReadHex
 readAnswer d text image = record { number = readOf d text image .number; line = readOf d text image .line }
+
+-- what the call promises: its answer, and the image that it leaves
+pub record HexRead (d : Device) (text image : List ℕ) (r : ReadHex) (image′ : List ℕ) : Type 0 where
+  pub answer : r ≡ readAnswer d text image
+  pub image-is : image′ ≡ readOf d text image .image

@@ -1,5 +1,6 @@
 -- Writing an image as HEX text ('HEX text'; refusals 13, 20, 26).
 use Prim.Native.Nat.{ℕ, zero, suc, _+_, _-_, _*_, _/_, _%_}
+use mathlib.Core.Path.{_≡_}
 use mathlib.Core.List.{List, [], _∷_, _++_}
 use lib.Dec.{ltb, leb, eqb}
 use lib.ListN.{length, getD}
@@ -98,3 +99,8 @@ writtenHex d image out =
 -- bytes past the text stay, and a refusal writes nothing
 unfoldable pub writtenOut : Device → (image out : List ℕ) → List ℕ
 writtenOut d image out = pick (eqb (writtenHex d image out .number) 0) (sets out 0 (hexText (d .words) image)) out
+
+-- what the call promises: its answer, and the buffer afterwards
+pub record WroteHex (d : Device) (image out : List ℕ) (r : WrittenHex) (after : List ℕ) : Type 0 where
+  pub answer : r ≡ writtenHex d image out
+  pub bytes : after ≡ writtenOut d image out

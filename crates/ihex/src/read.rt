@@ -8,8 +8,8 @@ ghost use mathlib.Core.Path.{_≡_};
 ghost use Prim.Native.Nat.{_+_, _≤_};
 ghost use lib.ListN.{length, replicate};
 ghost use Rattle.words.specs.Word.{notGiven};
-ghost use Rattle.ihex.specs.Reader.{mostText};
-ghost use Rattle.ihex.specs.LawsReader.{LinesRead, HexRead};
+ghost use Rattle.ihex.specs.Reader.{mostText, HexRead};
+ghost use Rattle.ihex.specs.LawsReader.{LinesRead};
 
 const LF: u8 = 10;
 

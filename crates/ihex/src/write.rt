@@ -9,8 +9,8 @@ ghost use mathlib.Core.Path.{_≡_};
 ghost use Prim.Native.Nat.{_+_, _≤_};
 ghost use lib.ListN.{length};
 ghost use Rattle.device.specs.Record.{mostWords};
-ghost use Rattle.ihex.specs.Writer.{textFrom, hexText};
-ghost use Rattle.ihex.specs.LawsWrite.{Wrote, WroteHex, refusedWith};
+ghost use Rattle.ihex.specs.Writer.{textFrom, hexText, WroteHex};
+ghost use Rattle.ihex.specs.LawsWrite.{Wrote, refusedWith};
 
 // Writes the given words of an image; answers the text's length, or 13, 20 or 26 and writes nothing.
 pub fn write_hex(d: Device, image: &[u16], out: &mut [u8]) -> WrittenHex

@@ -1,5 +1,6 @@
 -- What the planners answer and write ('Refusal numbers': 13, 20, 21, 22, 23, 24, 26).
 use Prim.Native.Nat.{ℕ, _+_, _*_}
+use mathlib.Core.Path.{_≡_}
 use mathlib.Core.Bool.{Bool, _&&_, not}
 use mathlib.Core.List.{List}
 use lib.Dec.{leb, eqb}
@@ -63,3 +64,8 @@ planned number steps out =
 -- bytes past the stream stay, and a refusal writes nothing
 unfoldable pub plannedOut : (number : ℕ) → List Order → (out : List ℕ) → List ℕ
 plannedOut number steps out = pick (eqb (planned number steps out .number) 0) (sets out 0 (bytesOf steps)) out
+
+-- what the three calls promise: the answer, and the buffer afterwards
+pub record Plans (number : ℕ) (steps : List Order) (out : List ℕ) (r : Planned) (out′ : List ℕ) : Type 0 where
+  pub answers : r ≡ planned number steps out
+  pub written : out′ ≡ plannedOut number steps out

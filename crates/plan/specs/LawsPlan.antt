@@ -21,15 +21,10 @@ use Rattle.device.specs.LawsRecord.{Rules, ok-of-judged, rules-of-judged, bad-o
 use Rattle.target.specs.declared.Order.{Order}
 use Rattle.target.specs.Stream.{bytesOf}
 use Rattle.plan.specs.Wanted.{known, wanted}
-use Rattle.plan.specs.Answers.{otherId, canWrite, configOk, updateNumber, freshNumber, readBackNumber, planned, plannedOut}
+use Rattle.plan.specs.Answers.{otherId, canWrite, configOk, updateNumber, freshNumber, readBackNumber, planned, plannedOut, Plans}
 use Rattle.plan.specs.LawsPlanWanted.{known-inside}
 use Rattle.plan.specs.LawsPlanWrote.{Wrote, Room, ample}
 use Rattle.plan.specs.declared.Planned.{Planned}
-
--- the answer, and the buffer afterwards
-pub record Plans (number : ℕ) (steps : List Order) (out : List ℕ) (r : Planned) (out′ : List ℕ) : Type 0 where
-  pub answers : r ≡ planned number steps out
-  pub written : out′ ≡ plannedOut number steps out
 
 module _ (number : ℕ) (steps : List Order) (out : List ℕ) where
   refused-is : (number ≡ 0 → ⊥) → planned number steps out ≡ record { number = number; steps = 0 }

@@ -13,11 +13,10 @@ use words::ERASED;
 ghost use mathlib.Core.List.{[]};
 ghost use Rattle.device.specs.LawsRecord.{Rules};
 ghost use Rattle.plan.specs.Steps.{updateSteps, freshSteps, readBackSteps};
-ghost use Rattle.plan.specs.Answers.{updateNumber, freshNumber, readBackNumber};
+ghost use Rattle.plan.specs.Answers.{updateNumber, freshNumber, readBackNumber, Plans};
 ghost use Rattle.plan.specs.LawsPlanWanted.{Source};
 ghost use Rattle.plan.specs.LawsPlanWrote.{Wrote, Room};
 ghost use Rattle.plan.specs.LawsPlanSteps.{bodySteps};
-ghost use Rattle.plan.specs.LawsPlan.{Plans};
 
 // The stream that makes a board that holds the reading hold what is wanted: 13, 20 to 24 or 26, or its steps.
 pub fn update(d: Device, image: &[u16], reading: &[u16], out: &mut [u8]) -> Planned

@@ -19,7 +19,7 @@ use Rattle.device.specs.Record.{deviceOk}
 use Rattle.target.specs.Chip.{Chip, chipOf}
 use Rattle.target.specs.Effects.{entered, blank}
 use Rattle.target.specs.Step.{Target, decoded, orderNumber, readAfter, targetAfter, room, refusal, obeyed, advanced, fresh, soundCells}
-use Rattle.target.specs.Run.{stepAt, Run, turn, after, begun, ranOn, runRefusal, ran, answered}
+use Rattle.target.specs.Run.{stepAt, Run, turn, after, begun, ranOn, runRefusal, ran, answered, Runs}
 use Rattle.target.specs.LawsStep.{target, Advances, refused-stays, read-room}
 use Rattle.target.specs.declared.Registers.{Registers}
 use Rattle.target.specs.declared.Ran.{Ran}
@@ -29,12 +29,6 @@ use Rattle.target.specs.declared.Decoded.{Decoded}
 use Rattle.target.specs.declared.Decoded.the-variants.{Do, Refused}
 
 -- ---- results
-
--- the promise of the call
-pub record Runs (d : Device) (stream : List ℕ) (allowance : ℕ) (words cells : List ℕ) (a : Ran) (words′ cells′ : List ℕ) : Type 0 where
-  pub answers : a ≡ answered (ran d stream allowance cells words)
-  pub words-read : words′ ≡ ran d stream allowance cells words .target .words
-  pub cells-left : cells′ ≡ ran d stream allowance cells words .target .cells
 
 -- the same of a run of so many steps that nothing stops before the first
 pub record Goes (d : Device) (stream : List ℕ) (steps : ℕ) (words cells : List ℕ) (a : Ran) (words′ cells′ : List ℕ) : Type 0 where

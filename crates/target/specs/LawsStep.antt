@@ -17,7 +17,7 @@ use Rattle.device.specs.declared.Device.{Device}
 use Rattle.device.specs.Record.{deviceOk}
 use Rattle.target.specs.Chip.{Chip, chipOf}
 use Rattle.target.specs.Effects.{registersAfter, cellsAfter, wordRead}
-use Rattle.target.specs.Step.{Target, decoded, orderNumber, wordsAfter, readAfter, targetAfter, room, refusal, obeyed, advanced, soundCells, soundLatches, stepNumber, stepTarget, fresh}
+use Rattle.target.specs.Step.{Target, decoded, orderNumber, wordsAfter, readAfter, targetAfter, room, refusal, obeyed, advanced, soundCells, soundLatches, stepNumber, stepTarget, fresh, Steps}
 use Rattle.target.specs.declared.Order.{Order}
 use Rattle.target.specs.declared.Order.the-variants.{LoadConfiguration, LoadData, Read, Increment, ResetAddress, Begin, BulkErase, RowErase}
 use Rattle.target.specs.declared.Decoded.{Decoded}
@@ -55,13 +55,6 @@ pub record Obeys (d : Device) (o : Order) (r : Registers) (read : ℕ) (words ce
 pub record Advances (d : Device) (s : Decoded) (r : Registers) (read : ℕ) (words cells : List ℕ) (number : ℕ) (r′ : Registers) (read′ : ℕ) (words′ cells′ : List ℕ) : Type 0 where
   pub refuses : number ≡ refusal (chipOf d) s (target r read words cells)
   pub leaves : target r′ read′ words′ cells′ ≡ advanced (chipOf d) s (target r read words cells)
-
--- the promise of the call for a single step
-pub record Steps (d : Device) (r : Registers) (code payload : ℕ) (words cells : List ℕ) (number : ℕ) (r′ : Registers) (words′ cells′ : List ℕ) : Type 0 where
-  pub answers : number ≡ stepNumber d code payload (fresh r cells words)
-  pub registers : r′ ≡ stepTarget d code payload (fresh r cells words) .registers
-  pub words-read : words′ ≡ stepTarget d code payload (fresh r cells words) .words
-  pub cells-left : cells′ ≡ stepTarget d code payload (fresh r cells words) .cells
 
 -- ---- the word read: only Read takes a place
 

@@ -1,5 +1,6 @@
 -- A run: entry, and then steps in turn, as many as it may take (13, 32, 34, then each step's own refusal).
 use Prim.Native.Nat.{ℕ, zero, suc, _+_, _*_, _/_, _%_, min}
+use mathlib.Core.Path.{_≡_}
 use mathlib.Core.List.{List}
 use lib.Dec.{eqb}
 use lib.ListN.{length, getD}
@@ -60,3 +61,9 @@ ran d stream allowance cells words =
 -- what the call answers: the number, the steps completed, the words read
 unfoldable pub answered : Run → Ran
 answered r = record { number = r .number; steps = r .done; words = r .target .read }
+
+-- what a run promises: its answer, the words read and the cells afterwards
+pub record Runs (d : Device) (stream : List ℕ) (allowance : ℕ) (words cells : List ℕ) (a : Ran) (words′ cells′ : List ℕ) : Type 0 where
+  pub answers : a ≡ answered (ran d stream allowance cells words)
+  pub words-read : words′ ≡ ran d stream allowance cells words .target .words
+  pub cells-left : cells′ ≡ ran d stream allowance cells words .target .cells

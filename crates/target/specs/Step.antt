@@ -1,5 +1,6 @@
 -- A step's code and payload, and its refusals ('Steps of the target'; 30, 31, 33, 35).
 use Prim.Native.Nat.{ℕ, _+_, _-_, _/_, _%_}
+use mathlib.Core.Path.{_≡_}
 use mathlib.Core.Bool.{Bool, _&&_}
 use mathlib.Core.List.{List}
 use lib.Dec.{ltb, leb, eqb}
@@ -136,3 +137,10 @@ stepTarget d code payload t = pick (eqb (stepNumber d code payload t) 0) (advanc
 -- a target whose buffer for words read is empty
 unfoldable pub fresh : Registers → (cells words : List ℕ) → Target
 fresh r cells words = record { registers = r; cells = cells; words = words; read = 0 }
+
+-- what a single step promises: its number, the registers, the words read and the cells afterwards
+pub record Steps (d : Device) (r : Registers) (code payload : ℕ) (words cells : List ℕ) (number : ℕ) (r′ : Registers) (words′ cells′ : List ℕ) : Type 0 where
+  pub answers : number ≡ stepNumber d code payload (fresh r cells words)
+  pub registers : r′ ≡ stepTarget d code payload (fresh r cells words) .registers
+  pub words-read : words′ ≡ stepTarget d code payload (fresh r cells words) .words
+  pub cells-left : cells′ ≡ stepTarget d code payload (fresh r cells words) .cells

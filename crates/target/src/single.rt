@@ -14,8 +14,8 @@ ghost use Prim.Native.Nat.{_+_, _-_, _≤_, _<_};
 ghost use lib.ListN.{length};
 ghost use Rattle.device.specs.LawsRecord.{Rules};
 ghost use Rattle.target.specs.Chip.{chipOf};
-ghost use Rattle.target.specs.Step.{decoded, orderNumber, soundLatches};
-ghost use Rattle.target.specs.LawsStep.{Taken, Obeys, Advances, Steps};
+ghost use Rattle.target.specs.Step.{decoded, orderNumber, soundLatches, Steps};
+ghost use Rattle.target.specs.LawsStep.{Taken, Obeys, Advances};
 
 // What an order leaves beside the cells and the words: its refusal or 0, the registers, and how many words are read.
 pub(crate) struct Obeyed {

@@ -9,9 +9,9 @@ ghost use mathlib.Core.Path.{_≡_};
 ghost use Prim.Native.Nat.{_+_, _*_, _≤_, _<_, min};
 ghost use lib.ListN.{length, getD};
 ghost use Rattle.device.specs.LawsRecord.{Rules};
-ghost use Rattle.target.specs.Run.{stepAt, runRefusal};
+ghost use Rattle.target.specs.Run.{stepAt, runRefusal, Runs};
 ghost use Rattle.target.specs.LawsStep.{Advances};
-ghost use Rattle.target.specs.LawsRun.{Runs, Goes};
+ghost use Rattle.target.specs.LawsRun.{Goes};
 
 // Runs a stream on a target: 13, 32 and 34 before the first step, and then the refusal of the step that stops it.
 pub fn run(d: Device, cells: &mut [u16], stream: &[u8], allowance: usize, words: &mut [u16]) -> Ran
