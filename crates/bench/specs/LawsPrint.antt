@@ -16,7 +16,12 @@ use Rattle.words.specs.Hex.{wordText}
 use Rattle.words.specs.LawsChoice.{pick-true, pick-false}
 use Rattle.words.specs.LawsHex.{length-word-text}
 use Rattle.words.specs.LawsLists.{sets-append}
-use Rattle.bench.specs.Print.{digits, decimalText, refusedText, Wrote, Prints}
+use Rattle.bench.specs.Print.{digits, decimalText, refusedText, Prints}
+
+-- a text stored from a place on, as far as there is room, and where it ends
+pub record Wrote (at : ℕ) (text out : List ℕ) (r : ℕ) (out′ : List ℕ) : Type 0 where
+  pub end : r ≡ at + length text
+  pub bytes : out′ ≡ sets out at text
 
 -- ---- texts one after another
 

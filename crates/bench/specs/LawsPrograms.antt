@@ -22,8 +22,8 @@ use Rattle.judge.specs.Checksum.{checksumOf, summed}
 use Rattle.judge.specs.Count.{countTo, firstTo}
 use Rattle.judge.specs.Verify.{differs, bare, verdictOf, verified}
 use Rattle.judge.specs.LawsVerify.{verified-judged}
-use Rattle.bench.specs.Print.{decimalText, refusedText, Wrote, Prints}
-use Rattle.bench.specs.LawsPrint.{prints, wrote-as, wrote-then}
+use Rattle.bench.specs.Print.{decimalText, refusedText, Prints}
+use Rattle.bench.specs.LawsPrint.{Wrote, prints, wrote-as, wrote-then}
 use Rattle.bench.specs.Open.{recordOf, recordNumber, boardNumber, readingOf}
 use Rattle.bench.specs.Programs.{checksumText, verdictText, verifyNumber, verifyText}
 

@@ -2,6 +2,8 @@
 pub mod Print
 pub mod Open
 pub mod Programs
+pub mod Streams
+pub mod Trial
 pub mod LawsPrint
 pub mod LawsOpen
 pub mod LawsPrograms

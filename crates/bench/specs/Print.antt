@@ -22,11 +22,6 @@ unfoldable pub refusedText : (number line : ℕ) → List ℕ
 refusedText number line =
     0x72 ∷ 0x65 ∷ 0x66 ∷ 0x75 ∷ 0x73 ∷ 0x65 ∷ 0x64 ∷ tab ∷ (decimalText number ++ tab ∷ (decimalText line ++ lf ∷ []))
 
--- a text stored from a place on, as far as there is room, and where it ends
-pub record Wrote (at : ℕ) (text out : List ℕ) (r : ℕ) (out′ : List ℕ) : Type 0 where
-  pub end : r ≡ at + length text
-  pub bytes : out′ ≡ sets out at text
-
 -- what a program prints: the length of the whole text, stored as far as there is room
 pub record Prints (text out : List ℕ) (r : ℕ) (out′ : List ℕ) : Type 0 where
   pub count : r ≡ length text

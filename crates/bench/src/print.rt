@@ -4,15 +4,16 @@ ghost use mathlib.Core.List.{[], _∷_, _++_};
 ghost use Prim.Native.Nat.{_≤_};
 ghost use lib.ListN.{length};
 ghost use Rattle.words.specs.Hex.{wordText};
-ghost use Rattle.bench.specs.Print.{decimalText, refusedText, Wrote, Prints};
+ghost use Rattle.bench.specs.Print.{decimalText, refusedText, Prints};
+ghost use Rattle.bench.specs.LawsPrint.{Wrote};
 
 pub(crate) const TAB: u8 = 9;
 
 pub(crate) const LF: u8 = 10;
 
 // One byte.
-fn put_one(out: &mut [u8], at: usize, byte: u8) -> usize
-    requires { ⌜ at ≤ 1000 ⌝ }
+pub(crate) fn put_one(out: &mut [u8], at: usize, byte: u8) -> usize
+    requires { ⌜ at ≤ 1000000 ⌝ }
     ensures { λ r. ⌜ Wrote at (byte ∷ []) (now (out .entry)) r (now (out .exit)) ⌝ }
 {
     words::hex::put(out, at, byte);
@@ -50,8 +51,8 @@ pub(crate) fn put_hex(out: &mut [u8], at: usize, word: u16, mark: u8) -> usize
 }
 
 // A text as it stands.
-fn put_text(out: &mut [u8], at: usize, text: &[u8]) -> usize
-    requires { ⌜ (at ≤ 900) × (length (now text) ≤ 100) ⌝ }
+pub(crate) fn put_text(out: &mut [u8], at: usize, text: &[u8]) -> usize
+    requires { ⌜ (at ≤ 900) × (length (now text) ≤ 1000000) ⌝ }
     ensures { λ r. ⌜ Wrote at (now (text .entry)) (now (out .entry)) r (now (out .exit)) ⌝ }
 {
     let mut i = 0;
