@@ -42,11 +42,11 @@ judgedText d sheet wanted =
 -- ---- checksum
 
 module _ (table sheet : List ℕ) where
-  board-refused : (recordNumber table sheet ≡ 0 → ⊥) → boardNumber table sheet ≡ recordNumber table sheet
+  pub board-refused : (recordNumber table sheet ≡ 0 → ⊥) → boardNumber table sheet ≡ recordNumber table sheet
   unfolding boardNumber pick
   board-refused n = rw (ne-eqb (recordNumber table sheet) 0 n)
 
-  board-found : recordNumber table sheet ≡ 0 → boardNumber table sheet ≡ pick (sheetOk (recordOf table sheet) sheet) 0 14
+  pub board-found : recordNumber table sheet ≡ 0 → boardNumber table sheet ≡ pick (sheetOk (recordOf table sheet) sheet) 0 14
   unfolding boardNumber pick
   board-found z = rw (eq-eqb (recordNumber table sheet) 0 z)
 

@@ -7,3 +7,5 @@ pub mod Trial
 pub mod LawsPrint
 pub mod LawsOpen
 pub mod LawsPrograms
+pub mod LawsTyped
+pub mod LawsTrial

@@ -2,7 +2,10 @@
 mod board;
 mod checksums;
 mod print;
+mod trials;
+mod typed;
 mod verdicts;
 
 pub use checksums::checksum;
+pub use trials::trial;
 pub use verdicts::verify;
