@@ -48,6 +48,10 @@ prints text out r out′ p = record { count = p .end ∙ native.Mathlib.Nat.zero
 pub prints-as : (x y out : List ℕ) (r : ℕ) (out′ : List ℕ) → x ≡ y → Prints x out r out′ → Prints y out r out′
 prints-as x y out r out′ e p = rw e at p
 
+-- a text whose length is bounded is printed with that bound
+pub printed : {text out : List ℕ} {r : ℕ} {out′ : List ℕ} (most : ℕ) → length text ≤ most → Prints text out r out′ → (Prints text out r out′) × (r ≤ most)
+printed {text} {out} {r} {out′} most short p = (p, let e : r ≡ length text = p .count in omega arith)
+
 -- ---- decimal numbers
 
 -- ten to the power of k and one more

@@ -9,3 +9,9 @@ pub mod LawsOpen
 pub mod LawsPrograms
 pub mod LawsTyped
 pub mod LawsTrial
+pub mod LawsStreams
+pub mod LawsPlanned
+pub mod LawsBoard
+pub mod LawsPlans
+pub mod LawsDump
+pub mod LawsBounds

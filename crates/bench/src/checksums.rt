@@ -4,7 +4,7 @@ use crate::print;
 use device::Device;
 ghost use mathlib.Core.Path.{_≡_};
 ghost use mathlib.Core.Bool.{true};
-ghost use Prim.Native.Nat.{_+_};
+ghost use Prim.Native.Nat.{_+_, _≤_};
 ghost use lib.ListN.{length};
 ghost use Rattle.device.specs.Record.{deviceOk};
 ghost use Rattle.bench.specs.Programs.{checksumText};
@@ -13,7 +13,7 @@ ghost use Rattle.bench.specs.LawsPrograms.{sumText};
 
 // Prints the checksum of a board's sheet as far as there is room, and answers the length of the whole text.
 pub fn checksum(table: &[u8], sheet: &[u8], out: &mut [u8]) -> usize
-    ensures { λ r. ⌜ Prints (checksumText (now (table .entry)) (now (sheet .entry))) (now (out .entry)) r (now (out .exit)) ⌝ }
+    ensures { λ r. ⌜ (Prints (checksumText (now (table .entry)) (now (sheet .entry))) (now (out .entry)) r (now (out .exit))) × (r ≤ 64) ⌝ }
 {
     let opened = board::open_record(table, sheet);
     if opened.number != 0 {

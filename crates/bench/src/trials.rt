@@ -6,7 +6,7 @@ use device::Device;
 use words::ERASED;
 ghost use mathlib.Core.Path.{_≡_};
 ghost use mathlib.Core.Bool.{true};
-ghost use Prim.Native.Nat.{_+_};
+ghost use Prim.Native.Nat.{_+_, _≤_};
 ghost use lib.ListN.{length, replicate, take};
 ghost use Rattle.words.specs.Word.{erased};
 ghost use Rattle.device.specs.Record.{deviceOk};
@@ -24,7 +24,7 @@ const MOST_SHEET: usize = 46135;
 
 // Prints the sheet after a printed stream was played on the model, as far as there is room, and answers the length of the whole text.
 pub fn trial(table: &[u8], sheet: &[u8], stream: &[u8], out: &mut [u8]) -> usize
-    ensures { λ r. ⌜ Prints (trialText (now (table .entry)) (now (sheet .entry)) (now (stream .entry))) (now (out .entry)) r (now (out .exit)) ⌝ }
+    ensures { λ r. ⌜ (Prints (trialText (now (table .entry)) (now (sheet .entry)) (now (stream .entry))) (now (out .entry)) r (now (out .exit))) × (r ≤ 46135) ⌝ }
 {
     let opened = board::open_record(table, sheet);
     if opened.number != 0 {

@@ -5,7 +5,7 @@ use device::Device;
 use judge::Verdict;
 ghost use mathlib.Core.Path.{_≡_};
 ghost use mathlib.Core.Bool.{true};
-ghost use Prim.Native.Nat.{_+_, _<_, _^_};
+ghost use Prim.Native.Nat.{_+_, _<_, _^_, _≤_};
 ghost use lib.ListN.{length};
 ghost use Rattle.device.specs.Record.{deviceOk};
 ghost use Rattle.bench.specs.Programs.{verdictText, verifyText};
@@ -14,7 +14,7 @@ ghost use Rattle.bench.specs.LawsPrograms.{judgedText};
 
 // Prints how a board's sheet differs from the wanted one as far as there is room, and answers the length of the whole text.
 pub fn verify(table: &[u8], sheet: &[u8], wanted: &[u8], out: &mut [u8]) -> usize
-    ensures { λ r. ⌜ Prints (verifyText (now (table .entry)) (now (sheet .entry)) (now (wanted .entry))) (now (out .entry)) r (now (out .exit)) ⌝ }
+    ensures { λ r. ⌜ (Prints (verifyText (now (table .entry)) (now (sheet .entry)) (now (wanted .entry))) (now (out .entry)) r (now (out .exit))) × (r ≤ 64) ⌝ }
 {
     let opened = board::open_record(table, sheet);
     if opened.number != 0 {

@@ -1,29 +1,10 @@
-// What stands around a program's call: its files are read, each whole or nothing of it, and its text is written.
+// What stands around a program's call: its files are opened and read, and its text is written.
+use libc::STDERR_FILENO;
 use libc::STDOUT_FILENO;
 ghost use Rattle.io.specs.Counts.{Counts};
 
-// Reads the file that an argument names, or else the one of this name. One that cannot be opened or read, or has more bytes than the buffer, counts as empty.
-pub fn load(argument: usize, name: &[u8], buffer: &mut [u8]) -> usize
-    ensures { λ r. ⌜ Counts r (now (buffer .exit)) ⌝ }
-{
-    let fd = open_file(argument, name);
-    let n = io::read_full(fd, buffer);
-    if is_at_end(fd) {
-        return n;
-    }
-    0
-}
-
-// Whether a file has no byte left to read; then it is closed.
-fn is_at_end(fd: i32) -> bool {
-    let mut one = [0u8; 1];
-    let got = libc::read(fd, &mut one);
-    libc::close(fd);
-    got == 0
-}
-
 // Opens the file that an argument names, or else the one of this name.
-fn open_file(argument: usize, name: &[u8]) -> i32 {
+pub fn open(argument: usize, name: &[u8]) -> i32 {
     let mut path = io::buffer();
     let n = os::arg(argument, &mut path);
     if os::errno() == libc::EINVAL {
@@ -32,11 +13,46 @@ fn open_file(argument: usize, name: &[u8]) -> i32 {
     os::open_read(&path[..n])
 }
 
-// Writes the text to standard output, and says on standard error if that fails.
+// Reads a whole file and closes it. One that is not open or cannot be read, or has more bytes than the buffer, counts as empty.
+pub fn read_whole(fd: i32, buffer: &mut [u8]) -> usize
+    ensures { λ r. ⌜ Counts r (now (buffer .exit)) ⌝ }
+{
+    let n = io::read_full(fd, buffer);
+    if ends_here(fd) {
+        return n;
+    }
+    0
+}
+
+// Reads as much of a file as the buffer takes and closes it, for a text whose length is judged later. One that is not open or cannot be read counts as empty.
+pub fn read_start(fd: i32, buffer: &mut [u8]) -> usize
+    ensures { λ r. ⌜ Counts r (now (buffer .exit)) ⌝ }
+{
+    let taken = io::read_full(fd, buffer);
+    if ends_here(fd) {
+        return taken;
+    }
+    if taken < buffer.len() {
+        return 0;
+    }
+    taken
+}
+
+// Whether a file has no byte left to read; then it is closed.
+fn ends_here(fd: i32) -> bool {
+    let mut one = [0u8; 1];
+    let got = libc::read(fd, &mut one);
+    libc::close(fd);
+    got == 0
+}
+
+// Writes the first n bytes to standard output, and says on standard error if that fails or there are not so many.
 pub fn show(out: &[u8], n: usize) {
-    if n <= out.len() {
-        if io::write_all(STDOUT_FILENO, &out[..n]) {} else {
-            os::fail(b"write");
-        }
+    if out.len() < n {
+        io::write_all(STDERR_FILENO, b"text: longer than its buffer\n");
+        return;
+    }
+    if io::write_all(STDOUT_FILENO, &out[..n]) {} else {
+        os::fail(b"write");
     }
 }

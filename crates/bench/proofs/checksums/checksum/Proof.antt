@@ -2,9 +2,10 @@
 use lib.Seq.{length-take-le}
 use mathlib.Core.Path.{sym, _∙_}
 use native.Mathlib.Omega.{arith}
-use Rattle.bench.specs.LawsPrint.{prints-as}
+use Rattle.bench.specs.LawsPrint.{prints-as, printed}
 use Rattle.bench.specs.LawsOpen.{opened-rules, opened-most}
 use Rattle.bench.specs.LawsPrograms.{checksum-refused, checksum-found}
+use Rattle.bench.specs.LawsBounds.{checksum-short}
 use borrow.Author.Needs.{needs}
 use Rattle.bench.proofs.checksums.checksum.Statement.{statement}
 use Rattle.bench.proofs.checksums.checksum.Tie as tie
@@ -19,7 +20,7 @@ same-length : tie.Need-same-length
 same-length c = search needs
 
 returns : tie.Need-returns
-returns c = prints-as _ _ _ _ _ (checksum-refused _ _ _ (c .before .before .before .before .before .before .open-record .ensures .0) (c .before .before .before .before .if1 .taken)) (c .before .before .put-refusal .ensures)
+returns c = printed _ (checksum-short _ _) (prints-as _ _ _ _ _ (checksum-refused _ _ _ (c .before .before .before .before .before .before .open-record .ensures .0) (c .before .before .before .before .if1 .taken)) (c .before .before .put-refusal .ensures))
 
 cast-count : tie.Need-cast-count
 cast-count c = search needs
@@ -40,7 +41,7 @@ same-length-2 : tie.Need-same-length-2
 same-length-2 c = search needs
 
 returns-2 : tie.Need-returns-2
-returns-2 c = prints-as _ _ _ _ _ (checksum-found _ _ (sym (c .before .before .before .before .before .before .before .before .before .before .open-record .ensures .0) ∙ c .before .before .before .before .before .before .before .before .if1 .left) _ (c .before .before .before .before .before .before .before .before .before .before .open-record .ensures .1)) (c .before .before .before .put-sum .ensures)
+returns-2 c = printed _ (checksum-short _ _) (prints-as _ _ _ _ _ (checksum-found _ _ (sym (c .before .before .before .before .before .before .before .before .before .before .open-record .ensures .0) ∙ c .before .before .before .before .before .before .before .before .if1 .left) _ (c .before .before .before .before .before .before .before .before .before .before .open-record .ensures .1)) (c .before .before .before .put-sum .ensures))
 
 pub checksum-spec : {M : Type 1} → statement M
 checksum-spec =

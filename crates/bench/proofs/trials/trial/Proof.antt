@@ -4,9 +4,9 @@ use mathlib.Core.Path.{sym, _∙_}
 use native.Mathlib.Omega.{arith}
 use lib.ListN.{length-replicate}
 use lib.Seq.{length-take-le}
-use Rattle.bench.specs.LawsPrint.{prints-as}
+use Rattle.bench.specs.LawsPrint.{prints-as, printed}
 use Rattle.bench.specs.LawsOpen.{opened-rules, opened-most}
-use Rattle.bench.specs.LawsTrial.{blank-part, trial-refused, trial-found}
+use Rattle.bench.specs.LawsTrial.{blank-part, trial-refused, trial-found, trial-short}
 use borrow.Author.Needs.{needs}
 use Rattle.bench.proofs.trials.trial.Statement.{statement}
 use Rattle.bench.proofs.trials.trial.Tie as tie
@@ -21,7 +21,7 @@ same-length : tie.Need-same-length
 same-length c = search needs
 
 returns : tie.Need-returns
-returns c = prints-as _ _ _ _ _ (trial-refused _ _ _ _ (c .before .before .before .before .before .before .open-record .ensures .0) (c .before .before .before .before .if1 .taken)) (c .before .before .put-refusal .ensures)
+returns c = printed _ (trial-short _ _ _) (prints-as _ _ _ _ _ (trial-refused _ _ _ _ (c .before .before .before .before .before .before .open-record .ensures .0) (c .before .before .before .before .if1 .taken)) (c .before .before .put-refusal .ensures))
 
 cast-count : tie.Need-cast-count
 cast-count c = search needs
@@ -45,7 +45,7 @@ same-length-2 : tie.Need-same-length-2
 same-length-2 c = search needs
 
 returns-2 : tie.Need-returns-2
-returns-2 c = prints-as _ _ _ _ _ (trial-found _ _ _ (sym (c .before .before .before .before .before .before .before .before .before .before .before .before .open-record .ensures .0) ∙ c .before .before .before .before .before .before .before .before .before .before .if1 .left) _ (c .before .before .before .before .before .before .before .before .before .before .before .before .open-record .ensures .1)) (c .before .before .before .before .put-trial .ensures)
+returns-2 c = printed _ (trial-short _ _ _) (prints-as _ _ _ _ _ (trial-found _ _ _ (sym (c .before .before .before .before .before .before .before .before .before .before .before .before .open-record .ensures .0) ∙ c .before .before .before .before .before .before .before .before .before .before .if1 .left) _ (c .before .before .before .before .before .before .before .before .before .before .before .before .open-record .ensures .1)) (c .before .before .before .before .put-trial .ensures))
 
 pub trial-spec : {M : Type 1} → statement M
 trial-spec =

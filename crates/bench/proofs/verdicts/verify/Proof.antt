@@ -2,9 +2,10 @@
 use lib.Seq.{length-take-le}
 use mathlib.Core.Path.{sym, _∙_}
 use native.Mathlib.Omega.{arith}
-use Rattle.bench.specs.LawsPrint.{prints-as}
+use Rattle.bench.specs.LawsPrint.{prints-as, printed}
 use Rattle.bench.specs.LawsOpen.{opened-rules, opened-most}
 use Rattle.bench.specs.LawsPrograms.{verify-refused, verify-found}
+use Rattle.bench.specs.LawsBounds.{verify-short}
 use borrow.Author.Needs.{needs}
 use Rattle.bench.proofs.verdicts.verify.Statement.{statement}
 use Rattle.bench.proofs.verdicts.verify.Tie as tie
@@ -19,7 +20,7 @@ same-length : tie.Need-same-length
 same-length c = search needs
 
 returns : tie.Need-returns
-returns c = prints-as _ _ _ _ _ (verify-refused _ _ _ _ (c .before .before .before .before .before .before .open-record .ensures .0) (c .before .before .before .before .if1 .taken)) (c .before .before .put-refusal .ensures)
+returns c = printed _ (verify-short _ _ _) (prints-as _ _ _ _ _ (verify-refused _ _ _ _ (c .before .before .before .before .before .before .open-record .ensures .0) (c .before .before .before .before .if1 .taken)) (c .before .before .put-refusal .ensures))
 
 cast-count : tie.Need-cast-count
 cast-count c = search needs
@@ -46,7 +47,7 @@ same-length-2 : tie.Need-same-length-2
 same-length-2 c = search needs
 
 returns-2 : tie.Need-returns-2
-returns-2 c = prints-as _ _ _ _ _ (verify-found _ _ _ (sym (c .before .before .before .before .before .before .before .before .before .before .before .before .open-record .ensures .0) ∙ c .before .before .before .before .before .before .before .before .before .before .if1 .left) _ (c .before .before .before .before .before .before .before .before .before .before .before .before .open-record .ensures .1)) (c .before .before .before .before .put-judged .ensures)
+returns-2 c = printed _ (verify-short _ _ _) (prints-as _ _ _ _ _ (verify-found _ _ _ (sym (c .before .before .before .before .before .before .before .before .before .before .before .before .open-record .ensures .0) ∙ c .before .before .before .before .before .before .before .before .before .before .if1 .left) _ (c .before .before .before .before .before .before .before .before .before .before .before .before .open-record .ensures .1)) (c .before .before .before .before .put-judged .ensures))
 
 pub verify-spec : {M : Type 1} → statement M
 verify-spec =
