@@ -1,10 +1,12 @@
 // The target model: what a board does with each step. No public call here has a `requires`.
+mod carried;
 mod cells;
 mod decode;
 mod effects;
 mod single;
 mod trial;
 
+pub use carried::step_on;
 pub use single::step;
 pub use trial::run;
 use words::WordAddress;
