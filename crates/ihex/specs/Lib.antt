@@ -1,10 +1,12 @@
 -- Intel HEX, and its laws in the modules whose names begin with Laws.
 pub mod Line
+pub mod Lines
 pub mod Reader
 pub mod Writer
 pub mod LawsLine
 pub mod LawsGive
 pub mod LawsReader
+pub mod LawsNext
 pub mod LawsLines
 pub mod LawsImage
 pub mod LawsWrite

@@ -1,6 +1,7 @@
 // Intel HEX: reader and writer. No call here has a `requires`.
 mod give;
 mod line;
+pub mod lines;
 mod read;
 mod step;
 mod write;

@@ -1,6 +1,7 @@
 // Reading HEX text into an image: the lines one after another, each looked at once.
 use crate::MOST_TEXT;
 use crate::ReadHex;
+use crate::lines::line_from;
 use crate::step::take_piece;
 use device::Device;
 use words::NOT_GIVEN;
@@ -10,8 +11,6 @@ ghost use lib.ListN.{length, replicate};
 ghost use Rattle.words.specs.Word.{notGiven};
 ghost use Rattle.ihex.specs.Reader.{mostText, HexRead};
 ghost use Rattle.ihex.specs.LawsReader.{LinesRead};
-
-const LF: u8 = 10;
 
 // Reads the words that a HEX text gives. A refused text leaves every entry 'not given'; 12 and 13 leave the image as it was.
 pub fn read_hex(d: Device, text: &[u8], image: &mut [u16]) -> ReadHex
@@ -46,12 +45,14 @@ fn read_lines(words: u16, text: &[u8], image: &mut [u16]) -> ReadHex
     ensures { λ r. ⌜ LinesRead words (now (text .entry)) (now (image .entry)) (r .number) (r .line) (now (image .exit)) ⌝ }
 {
     let mut at = 0;
-    let mut line: u32 = 1;
+    let mut line: u32 = 0;
     let mut ended = false;
     let mut upper: u32 = 0;
     while at < text.len() {
-        let stop = bytes::scan::find(text, at, text.len(), LF);
+        let next = line_from(text, at, line);
+        let stop = next.stop;
         let s = take_piece(words, &text[at..stop], ended, upper, image);
+        line = next.line;
         if s.number != 0 {
             return ReadHex {
                 number: s.number,
@@ -60,8 +61,7 @@ fn read_lines(words: u16, text: &[u8], image: &mut [u16]) -> ReadHex
         }
         ended = s.ended;
         upper = s.upper;
-        line += 1;
-        at = stop + 1;
+        at = next.at;
     }
     if ended {
         return ReadHex { number: 0, line: 0 };

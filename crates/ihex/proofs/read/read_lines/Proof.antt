@@ -3,12 +3,14 @@ use mathlib.Core.Path.{_∙_}
 use native.Mathlib.Omega.{arith}
 use Prim.Native.Nat.{_-_, _+_}
 use lib.ListN.{length}
-use Rattle.ihex.specs.LawsReader.{Ahead, ahead-all, ahead-on, lines-refused, lines-ended, lines-not-ended}
+use Rattle.ihex.specs.LawsReader.{Ahead, ahead-all, lines-ended, lines-not-ended}
+use Rattle.ihex.specs.LawsNext.{line-left, ahead-next, refused-next}
+use borrow.Author.Needs.{needs}
 use Rattle.ihex.proofs.read.read_lines.Statement.{statement}
 use Rattle.ihex.proofs.read.read_lines.Tie as tie
 
 abbrev Inv-loop : tie.InvT-loop
-Inv-loop words text image₀ at₀ line₀ ended₀ upper₀ image at line ended upper = Ahead words text image₀ at line ended upper image
+Inv-loop words text image₀ at₀ line₀ ended₀ upper₀ image at line ended upper = Ahead words text image₀ at (line + 1) ended upper image
 
 abbrev μ-loop : tie.MeasureT-loop
 μ-loop words text image₀ at₀ line₀ ended₀ upper₀ image at line ended upper = length text + 1 - at
@@ -16,17 +18,17 @@ abbrev μ-loop : tie.MeasureT-loop
 loop-holds : tie.Need-loop-holds Inv-loop μ-loop
 loop-holds c = ahead-all _ _ _ (c .before .before .pre .1) (c .before .before .pre .0)
 
-find-requires : tie.Need-find-requires Inv-loop μ-loop
-find-requires c κs = (omega arith, omega arith)
+line-from-requires : tie.Need-line-from-requires Inv-loop μ-loop
+line-from-requires c κs = search needs
 
 sub-take-piece : tie.Need-sub-take-piece Inv-loop μ-loop
-sub-take-piece c = omega arith
+sub-take-piece c = let n = line-left _ _ _ _ _ _ _ _ (c .before .before .loop .inv) (c .before .loop-test .taken) _ (c .line-from .ensures) in omega (arith, n)
 
 part-take-piece-start : tie.Need-part-take-piece-start Inv-loop μ-loop
-part-take-piece-start c = omega arith
+part-take-piece-start c = let n = line-left _ _ _ _ _ _ _ _ (c .before .before .loop .inv) (c .before .loop-test .taken) _ (c .line-from .ensures) in omega (arith, n)
 
 part-take-piece-end : tie.Need-part-take-piece-end Inv-loop μ-loop
-part-take-piece-end c = omega arith
+part-take-piece-end c = let n = line-left _ _ _ _ _ _ _ _ (c .before .before .loop .inv) (c .before .loop-test .taken) _ (c .line-from .ensures) in omega (arith, n)
 
 take-piece-requires : tie.Need-take-piece-requires Inv-loop μ-loop
 take-piece-requires c κs = c .before .before .before .before .loop .inv .long
@@ -35,19 +37,13 @@ same-length : tie.Need-same-length Inv-loop μ-loop
 same-length c = c .before .before .before .before .take-piece .kept .1 .1 .1 .1 .0 ∙ c .before .before .before .before .before .before .before .before .before .loop .inv .kept
 
 returns : tie.Need-returns Inv-loop μ-loop
-returns c = lines-refused _ _ _ _ _ _ _ _ (c .before .before .before .before .before .before .before .before .before .loop .inv) (c .before .before .before .before .before .before .before .before .loop-test .taken) _ (c .before .before .before .before .before .before .before .find .ensures .0) _ _ _ _ (c .before .before .before .before .take-piece .ensures) (c .if1 .taken)
-
-add-line : tie.Need-add-line Inv-loop μ-loop
-add-line c = let a = c .before .before .before .before .before .before .before .before .before .loop .inv in omega arith
-
-add-at : tie.Need-add-at Inv-loop μ-loop
-add-at c = omega arith
+returns c = refused-next _ _ _ _ _ _ _ _ (c .before .before .before .before .before .before .before .before .before .loop .inv) (c .before .before .before .before .before .before .before .before .loop-test .taken) _ (c .before .before .before .before .before .before .before .line-from .ensures) _ _ _ _ (c .before .before .before .before .take-piece .ensures) (c .if1 .taken)
 
 loop-less : tie.Need-loop-less Inv-loop μ-loop
-loop-less c = omega arith
+loop-less c = let n = line-left _ _ _ _ _ _ _ _ (c .before .before .before .before .before .before .before .before .before .loop .inv) (c .before .before .before .before .before .before .before .before .loop-test .taken) _ (c .before .before .before .before .before .before .before .line-from .ensures) in omega (arith, n)
 
 loop-again : tie.Need-loop-again Inv-loop μ-loop
-loop-again c = ahead-on _ _ _ _ _ _ _ _ (c .before .before .before .before .before .before .before .before .before .loop .inv) (c .before .before .before .before .before .before .before .before .loop-test .taken) _ (c .before .before .before .before .before .before .before .find .ensures .0) _ _ _ _ (c .before .before .before .before .take-piece .ensures) (c .before .before .before .before .before .before .before .find .ensures .1) (c .before .before .before .before .take-piece .kept .1 .1 .1 .1 .0) (c .if1 .left)
+loop-again c = ahead-next _ _ _ _ _ _ _ _ (c .before .before .before .before .before .before .before .before .before .loop .inv) (c .before .before .before .before .before .before .before .before .loop-test .taken) _ (c .before .before .before .before .before .before .before .line-from .ensures) _ _ _ _ (c .before .before .before .before .take-piece .ensures) (c .before .before .before .before .take-piece .kept .1 .1 .1 .1 .0) (c .if1 .left)
 
 same-length-2 : tie.Need-same-length-2 Inv-loop μ-loop
 same-length-2 c = c .before .before .loop .inv .kept
@@ -68,15 +64,13 @@ read-lines-spec =
     Inv-loop
     μ-loop
     loop-holds
-    find-requires
+    line-from-requires
     sub-take-piece
     part-take-piece-start
     part-take-piece-end
     take-piece-requires
     same-length
     returns
-    add-line
-    add-at
     loop-less
     loop-again
     same-length-2
