@@ -1,0 +1,6 @@
+/* What the files here use of C's stddef.h, on x86-64 Linux. */
+#ifndef STDDEF_H
+#define STDDEF_H
+typedef __SIZE_TYPE__ size_t;
+#define NULL ((void *)0)
+#endif

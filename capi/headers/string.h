@@ -1,0 +1,10 @@
+/* What the files here use of C's string.h. */
+#ifndef STRING_H
+#define STRING_H
+#include <stddef.h>
+void *memcpy(void *, const void *, size_t);
+void *memset(void *, int, size_t);
+void *memchr(const void *, int, size_t);
+int memcmp(const void *, const void *, size_t);
+int strcmp(const char *, const char *);
+#endif

@@ -1,0 +1,105 @@
+/* Tickmallet for C: the calls of target/staticlib/libcapi.a, which `rt staticlib capi` proves and builds for x86-64.
+
+   How values cross
+   - A call returns its number: 0, or the refusal as the paper counts it (verify also 40 and 41).
+   - The other values of an answer are stored through pointers, in every case. A value that the answer does not name is stored as 0.
+   - A list is two arguments, the address of its first element and the count of its elements (not of its bytes).
+   - A device record crosses by address: its five numbers stand in a row, in the order of the struct below.
+
+   What the caller keeps; nothing else is asked, and each call judges the contents of what it gets
+   - every address is that of so many elements, aligned for their type, and is not null, also where the count is 0;
+   - what a call may change (an argument that is not const) overlaps no other argument of that call.
+
+   Words have 14 bits, 0000h to 3FFFh. P is the record's program words, R its row words.
+   - an image has P+9 entries, each a word or FFFFh for 'not given': entry i is word i, entry P+k is word 8000h+k; 8004h to 8006h are never given;
+   - a reading has P+9 words, placed in the same way;
+   - the model's cells are P+11 words: a reading and the two calibration words;
+   - a stream has three bytes a step: code, payload low, payload high.
+   A refused call leaves its buffers as they were, except that read_hex clears the image and run keeps the steps before the refused one.
+   Bytes of a buffer past what was written stay. */
+
+#ifndef TICKMALLET_H
+#define TICKMALLET_H
+
+#include <stddef.h>
+#include <stdint.h>
+
+#ifdef __cplusplus
+extern "C" {
+#endif
+
+/* A device: its ID word, program words P, row words R, and the masks of the two configuration words.
+   The rules, which every call judges first (13): R is 8, 16 or 32; P is a multiple of R, from R to 8192; the ID and both masks are at
+   most 3FFFh; mask1 has bit 7 set. */
+typedef struct {
+    uint16_t id, words, row, mask1, mask2;
+} tickmallet_device;
+
+/* The most steps that an update or a fresh stream takes; a step is three bytes. A read-back takes 2P + 18. */
+#define TICKMALLET_MOST_STEPS(P, R) (2 * (size_t)(P) + 2 * (size_t)(P) / (R) + 22)
+
+/* Looks an ID up in the text of a device table, which is judged whole.
+   15: the table is malformed. 16: it has no such ID. Else 0, the record, and the place and length of its name in the text. */
+uint8_t tickmallet_find_device(const uint8_t *table, size_t table_count, uint16_t id,
+                               tickmallet_device *device, size_t *name_at, size_t *name_len);
+
+/* The ID on the first line of a sheet. 14: no four capital digits up to 3FFF and LF stand there. */
+uint8_t tickmallet_read_id(const uint8_t *text, size_t text_count, uint16_t *id);
+
+/* Reads a sheet into a buffer of P+9 words.
+   13: the record. 12: the buffer is not P+9 long. 14: the text is not the sheet of any reading under this record. */
+uint8_t tickmallet_read_sheet(const tickmallet_device *device, const uint8_t *text, size_t text_count,
+                              uint16_t *reading, size_t reading_count);
+
+/* Writes the sheet of a reading and stores its length, 55 + 45 P / 8 bytes. 13; 21: not a reading; 26: the buffer is too short. */
+uint8_t tickmallet_write_sheet(const tickmallet_device *device, const uint16_t *reading, size_t reading_count,
+                               uint8_t *out, size_t out_count, size_t *length);
+
+/* Reads HEX text into an image, and stores the line of a refusal (from 1; 0 where the refusal has none).
+   13 and 12 (the image is not P+9 long) leave the image; every other refusal makes it all FFFFh.
+   1: more than 131072 bytes. Then the first bad line: 11: not empty and after the end record; 2: not a record; 3: wrong sum; 4: type not
+   00, 01, 04; 5: type 01 or 04 with a wrong length or address; 6: data at an odd address or of odd length; then word by word 7: no
+   program word, user ID or configuration word; 8: above 3FFFh; 9: given before. Last 10: no end record. */
+uint8_t tickmallet_read_hex(const tickmallet_device *device, const uint8_t *text, size_t text_count,
+                            uint16_t *image, size_t image_count, uint32_t *line);
+
+/* Writes the given words of an image as HEX text and stores its length. What it writes is read back as the same image.
+   13; 20: not an image; 26: the buffer is too short. */
+uint8_t tickmallet_write_hex(const tickmallet_device *device, const uint16_t *image, size_t image_count,
+                             uint8_t *out, size_t out_count, size_t *length);
+
+/* Runs a stream on the target model: entry, and then at most `allowance` steps. Stores the steps completed and the words read, which go
+   in order to `words`. A run that ends early because a step is refused keeps what the earlier steps did.
+   Before the first step 13; 32: the cells are not P+11 words; 34: the stream is not in threes. Of a step 30: unknown code; 31: bad
+   payload; 33: Bulk Erase above 8008h; 35: no room for the word read. */
+uint8_t tickmallet_run(const tickmallet_device *device, uint16_t *cells, size_t cells_count, const uint8_t *stream, size_t stream_count,
+                       size_t allowance, uint16_t *words, size_t words_count, size_t *steps, size_t *words_read);
+
+/* Plans an update of a board that holds the reading: what the image gives changes, every other word stays, and a cut at any step followed
+   by the same stream again comes to the same. Stores the number of steps; the stream is three times as many bytes.
+   13; 20: not an image; 21: not a reading; 22: word 8006h is not the record's ID; 23: the reading is protected; 24: a configuration bit
+   would have to go from 0 to 1; 26: the buffer is too short. */
+uint8_t tickmallet_update(const tickmallet_device *device, const uint16_t *image, size_t image_count,
+                          const uint16_t *reading, size_t reading_count, uint8_t *out, size_t out_count, size_t *steps);
+
+/* Plans a fresh programming of any board whose word 8006h is `id_word`: what the image does not give becomes 3FFFh. 13, 20, 22, 26. */
+uint8_t tickmallet_fresh(const tickmallet_device *device, const uint16_t *image, size_t image_count, uint16_t id_word,
+                         uint8_t *out, size_t out_count, size_t *steps);
+
+/* Plans the stream that reads a whole board, P+9 words. 13, 26. */
+uint8_t tickmallet_read_back(const tickmallet_device *device, uint8_t *out, size_t out_count, size_t *steps);
+
+/* The checksum of a reading, mod 65536. 13; 21: not a reading. */
+uint8_t tickmallet_checksum(const tickmallet_device *device, const uint16_t *reading, size_t reading_count, uint16_t *sum);
+
+/* Holds a reading against a wanted one: user IDs, configuration words and, unless the reading is protected, program words.
+   0: all the same. 40: some differ; stores the first differing word address and the count of differing words. 41: nothing that is judged
+   differs, but the board is protected. 13; 21: one of the two is not a reading. */
+uint8_t tickmallet_verify(const tickmallet_device *device, const uint16_t *wanted, size_t wanted_count,
+                          const uint16_t *reading, size_t reading_count, uint16_t *address, size_t *count);
+
+#ifdef __cplusplus
+}
+#endif
+
+#endif

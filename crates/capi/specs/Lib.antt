@@ -1,0 +1,3 @@
+-- How the calls cross to C.
+pub mod Crossing
+pub mod LawsCrossing

@@ -1,0 +1,69 @@
+// Checksum, verify, and board sheets.
+use crate::record::device_at;
+ghost use mathlib.Core.Path.{_≡_};
+ghost use Rattle.judge.specs.Checksum.{summed};
+ghost use Rattle.judge.specs.Verify.{verified};
+ghost use Rattle.sheet.specs.Sheet.{readNumber, readBuffer, written, writtenText, firstLine};
+ghost use Rattle.capi.specs.Crossing.{deviceAt, sumAnswer, verdictAnswer, idAnswer, sheetAnswer};
+
+// The checksum of a reading.
+#[no_mangle]
+pub extern "C" fn tickmallet_checksum(numbers: &[u16; 5], reading: &[u16], sum: &mut u16) -> u8
+    ensures { λ r. ⌜ sumAnswer r (now (sum .exit)) ≡ summed (deviceAt (now (numbers .entry))) (now (reading .entry)) ⌝ }
+{
+    let s = judge::checksum(device_at(numbers), reading);
+    *sum = s.sum;
+    s.number
+}
+
+// A reading held against a wanted one.
+#[no_mangle]
+pub extern "C" fn tickmallet_verify(
+    numbers: &[u16; 5],
+    wanted: &[u16],
+    reading: &[u16],
+    address: &mut u16,
+    count: &mut usize,
+) -> u8
+    ensures { λ r. ⌜ verdictAnswer r (now (address .exit)) (now (count .exit)) ≡ verified (deviceAt (now (numbers .entry))) (now (wanted .entry)) (now (reading .entry)) ⌝ }
+{
+    let v = judge::verify(device_at(numbers), wanted, reading);
+    *address = v.address.0;
+    *count = v.count;
+    v.number
+}
+
+// The ID on a sheet's first line.
+#[no_mangle]
+pub extern "C" fn tickmallet_read_id(text: &[u8], id: &mut u16) -> u8
+    ensures { λ r. ⌜ idAnswer r (now (id .exit)) ≡ firstLine (now (text .entry)) ⌝ }
+{
+    let first = sheet::read_id(text);
+    *id = first.id;
+    first.number
+}
+
+// A sheet read into a buffer.
+#[no_mangle]
+pub extern "C" fn tickmallet_read_sheet(numbers: &[u16; 5], text: &[u8], buffer: &mut [u16]) -> u8
+    ensures { λ r. ⌜ (r ≡ readNumber (deviceAt (now (numbers .entry))) (now (text .entry)) (now (buffer .entry)))
+        × (now (buffer .exit) ≡ readBuffer (deviceAt (now (numbers .entry))) (now (text .entry)) (now (buffer .entry))) ⌝ }
+{
+    sheet::read_sheet(device_at(numbers), text, buffer)
+}
+
+// A sheet written.
+#[no_mangle]
+pub extern "C" fn tickmallet_write_sheet(
+    numbers: &[u16; 5],
+    reading: &[u16],
+    out: &mut [u8],
+    length: &mut usize,
+) -> u8
+    ensures { λ r. ⌜ (sheetAnswer r (now (length .exit)) ≡ written (deviceAt (now (numbers .entry))) (now (reading .entry)) (now (out .entry)))
+        × (now (out .exit) ≡ writtenText (deviceAt (now (numbers .entry))) (now (reading .entry)) (now (out .entry))) ⌝ }
+{
+    let w = sheet::write_sheet(device_at(numbers), reading, out);
+    *length = w.length;
+    w.number
+}

@@ -1,0 +1,35 @@
+// Intel HEX text.
+use crate::record::device_at;
+ghost use Rattle.ihex.specs.Reader.{HexRead};
+ghost use Rattle.ihex.specs.Writer.{WroteHex};
+ghost use Rattle.capi.specs.Crossing.{deviceAt, readAnswer, hexAnswer};
+
+// HEX text read into an image.
+#[no_mangle]
+pub extern "C" fn tickmallet_read_hex(
+    numbers: &[u16; 5],
+    text: &[u8],
+    image: &mut [u16],
+    line: &mut u32,
+) -> u8
+    ensures { λ r. ⌜ HexRead (deviceAt (now (numbers .entry))) (now (text .entry)) (now (image .entry)) (readAnswer r (now (line .exit))) (now (image .exit)) ⌝ }
+{
+    let a = ihex::read_hex(device_at(numbers), text, image);
+    *line = a.line;
+    a.number
+}
+
+// An image written as HEX text.
+#[no_mangle]
+pub extern "C" fn tickmallet_write_hex(
+    numbers: &[u16; 5],
+    image: &[u16],
+    out: &mut [u8],
+    length: &mut usize,
+) -> u8
+    ensures { λ r. ⌜ WroteHex (deviceAt (now (numbers .entry))) (now (image .entry)) (now (out .entry)) (hexAnswer r (now (length .exit))) (now (out .exit)) ⌝ }
+{
+    let w = ihex::write_hex(device_at(numbers), image, out);
+    *length = w.length;
+    w.number
+}

@@ -1,0 +1,152 @@
+/* The update and the fresh stream in plain C. */
+#include "plain_common.h"
+
+enum { LOAD_CONFIGURATION = 0x00, LOAD_DATA = 0x02, INCREMENT = 0x06, BEGIN = 0x08, BULK_ERASE = 0x09, ROW_ERASE = 0x11, RESET = 0x16 };
+
+struct plan {
+    const uint16_t *image, *reading; /* no reading: every word is erased */
+    size_t words, row;
+    int erase, all_ids;
+};
+
+static uint16_t known(const struct plan *p, size_t i)
+{
+    return p->reading ? p->reading[i] : ERASED;
+}
+
+static uint16_t wanted(const struct plan *p, size_t i)
+{
+    return p->image[i] != NOT_GIVEN ? p->image[i] : known(p, i);
+}
+
+static int differs(const struct plan *p, size_t i)
+{
+    return wanted(p, i) != known(p, i);
+}
+
+static int row_differs(const struct plan *p, size_t first)
+{
+    for (size_t i = first; i < first + p->row; i++)
+        if (differs(p, i))
+            return 1;
+    return 0;
+}
+
+/* Whether word 8000h + k is written. */
+static int chosen(const struct plan *p, size_t k)
+{
+    if (k >= 4 && k < 7)
+        return 0;
+    return (k < 4 && p->all_ids) || differs(p, p->words + k);
+}
+
+/* The steps of rows and configuration space; the counter is at 0. */
+static size_t body_length(const struct plan *p)
+{
+    size_t steps = 0, counter = 0, place = 0;
+    int any = 0;
+    for (size_t first = 0; first < p->words; first += p->row)
+        if (row_differs(p, first)) {
+            steps += (first - counter) + (p->erase ? 1 : 0) + (2 * p->row - 1) + 1;
+            counter = first + p->row - 1;
+        }
+    for (size_t k = 0; k < 9; k++)
+        if (chosen(p, k)) {
+            any = 1;
+            steps += (k - place) + 2;
+            place = k;
+        }
+    return steps + (any ? 1 : 0) + (any && p->all_ids ? 1 : 0);
+}
+
+static uint8_t *put(uint8_t *to, unsigned code, unsigned payload)
+{
+    to[0] = (uint8_t)code;
+    to[1] = (uint8_t)payload;
+    to[2] = (uint8_t)(payload >> 8);
+    return to + 3;
+}
+
+static uint8_t *put_body(uint8_t *to, const struct plan *p)
+{
+    size_t counter = 0, place = 0;
+    int any = 0;
+    for (size_t first = 0; first < p->words; first += p->row) {
+        if (!row_differs(p, first))
+            continue;
+        for (; counter < first; counter++)
+            to = put(to, INCREMENT, 0);
+        if (p->erase)
+            to = put(to, ROW_ERASE, 0);
+        for (size_t i = 0; i < p->row; i++) {
+            if (i)
+                to = put(to, INCREMENT, 0);
+            to = put(to, LOAD_DATA, 2u * wanted(p, first + i));
+        }
+        to = put(to, BEGIN, 0);
+        counter = first + p->row - 1;
+    }
+    for (size_t k = 0; k < 9; k++) {
+        if (!chosen(p, k))
+            continue;
+        if (!any) {
+            to = put(to, LOAD_CONFIGURATION, 2 * ERASED);
+            if (p->all_ids)
+                to = put(to, ROW_ERASE, 0);
+            any = 1;
+        }
+        for (; place < k; place++)
+            to = put(to, INCREMENT, 0);
+        to = put(to, LOAD_DATA, 2u * wanted(p, p->words + k));
+        to = put(to, BEGIN, 0);
+    }
+    return to;
+}
+
+uint8_t plain_update(const tickmallet_device *device, const uint16_t *image, size_t image_count,
+                     const uint16_t *reading, size_t reading_count, uint8_t *out, size_t out_count, size_t *steps)
+{
+    *steps = 0;
+    if (!device_ok(device))
+        return 13;
+    size_t words = device->words;
+    if (!image_ok(image, image_count, words))
+        return 20;
+    if (!words_ok(reading, reading_count, words + 9))
+        return 21;
+    if (reading[words + 6] != device->id)
+        return 22;
+    if (!(reading[words + 7] & CP))
+        return 23;
+    struct plan p = {image, reading, words, device->row, 1, 0};
+    for (size_t i = words + 7; i < words + 9; i++)
+        if (wanted(&p, i) & ~reading[i])
+            return 24;
+    for (size_t k = 0; k < 4; k++)
+        p.all_ids |= differs(&p, words + k);
+    size_t need = 1 + body_length(&p);
+    if (out_count < 3 * need)
+        return 26;
+    put_body(put(out, RESET, 0), &p);
+    *steps = need;
+    return 0;
+}
+
+uint8_t plain_fresh(const tickmallet_device *device, const uint16_t *image, size_t image_count, uint16_t id_word,
+                    uint8_t *out, size_t out_count, size_t *steps)
+{
+    *steps = 0;
+    if (!device_ok(device))
+        return 13;
+    if (!image_ok(image, image_count, device->words))
+        return 20;
+    if (id_word != device->id)
+        return 22;
+    struct plan p = {image, NULL, device->words, device->row, 0, 0};
+    size_t need = 3 + body_length(&p);
+    if (out_count < 3 * need)
+        return 26;
+    put_body(put(put(put(out, LOAD_CONFIGURATION, 2 * ERASED), BULK_ERASE, 0), RESET, 0), &p);
+    *steps = need;
+    return 0;
+}
