@@ -4,6 +4,7 @@ use mathlib.Core.Path.{_≡_}
 use lib.ListN.{set, replicate}
 use Rattle.words.specs.Word.{erased}
 use Rattle.words.specs.Address.{configBase, successor}
+use Rattle.words.specs.declared.WordAddress.{WordAddress}
 use Rattle.device.specs.declared.Device.{Device}
 use Rattle.target.specs.Chip.{chipOf}
 use Rattle.target.specs.Effects.{counterAfter, latchesAfter, blank, registersAfter}
@@ -22,7 +23,7 @@ module _ (d : Device) (o : Order) (r : Registers) where
   unfolding registersAfter counterAfter latchesAfter chipOf
   load-data-registers w e = rw e
 
-  pub increment-registers : (n : ℕ) → o ≡ Increment → n ≡ successor configBase (r .counter .0) → _≡_ {A = Registers} (record { counter = record { 0 = n }; latches = r .latches }) (registersAfter (chipOf d) o r)
+  pub increment-registers : (n : WordAddress) → o ≡ Increment → n .0 ≡ successor configBase (r .counter .0) → _≡_ {A = Registers} (record { counter = n; latches = r .latches }) (registersAfter (chipOf d) o r)
   unfolding registersAfter counterAfter latchesAfter chipOf
   increment-registers n e q = rw (e, q)
 

@@ -19,10 +19,16 @@ const BASE: usize = 0x8000;
 const LAST_ERASE: usize = 0x8008;
 
 // The cells after an order.
-pub(crate) fn cells_after(d: Device, order: Order, at: u16, latches: &[u16; 32], cells: &mut [u16])
+pub(crate) fn cells_after(
+    d: Device,
+    order: Order,
+    at: WordAddress,
+    latches: &[u16; 32],
+    cells: &mut [u16],
+)
     requires { ⌜ Rules d ⌝ }
     requires { ⌜ length (now cells) ≡ d .words + 11 ⌝ }
-    ensures { λ _. ⌜ now (cells .exit) ≡ cellsAfter (chipOf d) order at (now (latches .entry)) (now (cells .entry)) ⌝ }
+    ensures { λ _. ⌜ now (cells .exit) ≡ cellsAfter (chipOf d) order (at .0) (now (latches .entry)) (now (cells .entry)) ⌝ }
 {
     match order {
         Order::LoadConfiguration(_) => {}
@@ -37,18 +43,18 @@ pub(crate) fn cells_after(d: Device, order: Order, at: u16, latches: &[u16; 32],
 }
 
 // The word that Read answers: 0 for a program word while protected, and for a word that does not exist.
-pub(crate) fn word_at(d: Device, at: u16, cells: &[u16]) -> u16
+pub(crate) fn word_at(d: Device, at: WordAddress, cells: &[u16]) -> u16
     requires { ⌜ Rules d ⌝ }
     requires { ⌜ length (now cells) ≡ d .words + 11 ⌝ }
-    ensures { λ r. ⌜ r ≡ wordRead (chipOf d) at (now (cells .entry)) ⌝ }
+    ensures { λ r. ⌜ r ≡ wordRead (chipOf d) (at .0) (now (cells .entry)) ⌝ }
 {
-    if at < d.words {
+    if at.0 < d.words {
         if is_protected(d, cells) {
             return 0;
         }
-        return cells[at as usize];
+        return cells[at.0 as usize];
     }
-    let i = words::address::entry_of(WordAddress(0x8000), d.words, 11, WordAddress(at));
+    let i = words::address::entry_of(WordAddress(0x8000), d.words, 11, at);
     if i < cells.len() { cells[i] } else { 0 }
 }
 
@@ -61,14 +67,14 @@ fn is_protected(d: Device, cells: &[u16]) -> bool
 }
 
 // Row Erase.
-fn erase_row(d: Device, at: u16, cells: &mut [u16])
+fn erase_row(d: Device, at: WordAddress, cells: &mut [u16])
     requires { ⌜ Rules d ⌝ }
     requires { ⌜ length (now cells) ≡ d .words + 11 ⌝ }
-    ensures { λ _. ⌜ now (cells .exit) ≡ edit (rowErased (chipOf d) at (now (cells .entry))) (λ i. erased) (now (cells .entry)) ⌝ }
+    ensures { λ _. ⌜ now (cells .exit) ≡ edit (rowErased (chipOf d) (at .0) (now (cells .entry))) (λ i. erased) (now (cells .entry)) ⌝ }
 {
     let program = d.words as usize;
     let row = d.row as usize;
-    let a = at as usize;
+    let a = at.0 as usize;
     if a < program {
         if is_protected(d, cells) {
             return;
@@ -86,13 +92,13 @@ fn erase_row(d: Device, at: u16, cells: &mut [u16])
 }
 
 // Bulk Erase, where it is not refused.
-fn erase_all(d: Device, at: u16, cells: &mut [u16])
+fn erase_all(d: Device, at: WordAddress, cells: &mut [u16])
     requires { ⌜ Rules d ⌝ }
     requires { ⌜ length (now cells) ≡ d .words + 11 ⌝ }
-    ensures { λ _. ⌜ now (cells .exit) ≡ edit (bulkErased (chipOf d) at) (λ i. erased) (now (cells .entry)) ⌝ }
+    ensures { λ _. ⌜ now (cells .exit) ≡ edit (bulkErased (chipOf d) (at .0)) (λ i. erased) (now (cells .entry)) ⌝ }
 {
     let program = d.words as usize;
-    let a = at as usize;
+    let a = at.0 as usize;
     erase(cells, 0, program);
     erase(cells, program + 7, 2);
     if a < BASE {
@@ -105,14 +111,14 @@ fn erase_all(d: Device, at: u16, cells: &mut [u16])
 }
 
 // Begin.
-fn write_at(d: Device, at: u16, latches: &[u16; 32], cells: &mut [u16])
+fn write_at(d: Device, at: WordAddress, latches: &[u16; 32], cells: &mut [u16])
     requires { ⌜ Rules d ⌝ }
     requires { ⌜ length (now cells) ≡ d .words + 11 ⌝ }
-    ensures { λ _. ⌜ now (cells .exit) ≡ edit (written (chipOf d) at (now (cells .entry))) (burnt (chipOf d) at (now (latches .entry)) (now (cells .entry))) (now (cells .entry)) ⌝ }
+    ensures { λ _. ⌜ now (cells .exit) ≡ edit (written (chipOf d) (at .0) (now (cells .entry))) (burnt (chipOf d) (at .0) (now (latches .entry)) (now (cells .entry))) (now (cells .entry)) ⌝ }
 {
     let program = d.words as usize;
     let row = d.row as usize;
-    let a = at as usize;
+    let a = at.0 as usize;
     if a < program {
         if is_protected(d, cells) {
             return;

@@ -31,7 +31,7 @@ pub(crate) fn registers_after(d: Device, order: Order, r: Registers) -> Register
     ensures { λ s. ⌜ s ≡ registersAfter (chipOf d) order r ⌝ }
 {
     let mut next = r;
-    let at = r.counter.0;
+    let at = r.counter;
     match order {
         Order::LoadConfiguration(w) => {
             let base = WordAddress(CONFIG_BASE);
@@ -40,13 +40,13 @@ pub(crate) fn registers_after(d: Device, order: Order, r: Registers) -> Register
             next
         }
         Order::LoadData(w) => {
-            let latch = (at % d.row) as usize;
+            let latch = (at.0 % d.row) as usize;
             next.latches[latch] = w;
             next
         }
         Order::Read => r,
         Order::Increment => {
-            let counter = WordAddress(next_address(at));
+            let counter = next_address(at);
             next.counter = counter;
             next
         }
@@ -65,14 +65,14 @@ pub(crate) fn registers_after(d: Device, order: Order, r: Registers) -> Register
     }
 }
 
-fn next_address(a: u16) -> u16
-    ensures { λ r. ⌜ r ≡ successor configBase a ⌝ }
+fn next_address(a: WordAddress) -> WordAddress
+    ensures { λ r. ⌜ r .0 ≡ successor configBase (a .0) ⌝ }
 {
-    if a == 0x7fff {
-        return 0;
+    if a.0 == 0x7fff {
+        return WordAddress(0);
     }
-    if a == 0xffff {
-        return CONFIG_BASE;
+    if a.0 == 0xffff {
+        return WordAddress(CONFIG_BASE);
     }
-    a + 1
+    WordAddress(a.0 + 1)
 }

@@ -9,6 +9,7 @@ use crate::decode::decode;
 use crate::effects::registers_after;
 use device::Device;
 use words::WORD_LIMIT;
+use words::WordAddress;
 ghost use mathlib.Core.Path.{_≡_};
 ghost use Prim.Native.Nat.{_+_, _-_, _≤_, _<_};
 ghost use lib.ListN.{length};
@@ -98,7 +99,7 @@ fn obey(
     requires { ⌜ (length (now cells) ≡ d .words + 11) × (read ≤ length (now words)) ⌝ }
     ensures { λ o. ⌜ Obeys d order r read (now (words .entry)) (now (cells .entry)) (o .number) (o .registers) (o .read) (now (words .exit)) (now (cells .exit)) ⌝ }
 {
-    let at = r.counter.0;
+    let at = r.counter;
     let number = order_number(d, order, at, words.len() - read);
     if number != 0 {
         return Obeyed {
@@ -119,8 +120,8 @@ fn obey(
 }
 
 // 33 for Bulk Erase past the words at which it acts, 35 for Read with no room for its word.
-fn order_number(d: Device, order: Order, at: u16, room: usize) -> u8
-    ensures { λ r. ⌜ r ≡ orderNumber (chipOf d) order at room ⌝ }
+fn order_number(d: Device, order: Order, at: WordAddress, room: usize) -> u8
+    ensures { λ r. ⌜ r ≡ orderNumber (chipOf d) order (at .0) room ⌝ }
 {
     match order {
         Order::LoadConfiguration(_) => 0,
@@ -129,7 +130,7 @@ fn order_number(d: Device, order: Order, at: u16, room: usize) -> u8
         Order::Increment => 0,
         Order::ResetAddress => 0,
         Order::Begin => 0,
-        Order::BulkErase => if 0x8008 < at { 33 } else { 0 },
+        Order::BulkErase => if 0x8008 < at.0 { 33 } else { 0 },
         Order::RowErase => 0,
     }
 }
@@ -138,14 +139,14 @@ fn order_number(d: Device, order: Order, at: u16, room: usize) -> u8
 fn take_word(
     d: Device,
     order: Order,
-    at: u16,
+    at: WordAddress,
     read: usize,
     words: &mut [u16],
     cells: &[u16],
 ) -> usize
     requires { ⌜ Rules d ⌝ }
-    requires { ⌜ (length (now cells) ≡ d .words + 11) × (orderNumber (chipOf d) order at (length (now words) - read) ≡ 0) × (read ≤ length (now words)) ⌝ }
-    ensures { λ r. ⌜ Taken d order at read (now (words .entry)) (now (cells .entry)) r (now (words .exit)) ⌝ }
+    requires { ⌜ (length (now cells) ≡ d .words + 11) × (orderNumber (chipOf d) order (at .0) (length (now words) - read) ≡ 0) × (read ≤ length (now words)) ⌝ }
+    ensures { λ r. ⌜ Taken d order (at .0) read (now (words .entry)) (now (cells .entry)) r (now (words .exit)) ⌝ }
 {
     match order {
         Order::LoadConfiguration(_) => read,

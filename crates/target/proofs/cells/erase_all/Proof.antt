@@ -8,6 +8,9 @@ use Rattle.target.proofs.cells.erase_all.Tie as tie
 cast-program : tie.Need-cast-program
 cast-program c = search needs
 
+cast-a : tie.Need-cast-a
+cast-a c = search needs
+
 erase-requires : tie.Need-erase-requires
 erase-requires c κs = search needs
 
@@ -43,6 +46,7 @@ erase-all-spec =
     tie.close
     (tie.spec
     cast-program
+    cast-a
     erase-requires
     add-erase
     erase-requires-2

@@ -12,6 +12,9 @@ is-protected-requires c κs = search needs
 returns : tie.Need-returns
 returns c = sym (read-hidden _ _ _ (c .before .before .if1 .taken) (sym (c .before .is-protected .ensures) ∙ c .if2 .taken))
 
+cast-result : tie.Need-cast-result
+cast-result c = search needs
+
 mul-result : tie.Need-mul-result
 mul-result c = search needs
 
@@ -19,7 +22,7 @@ shared-slice-read-result : tie.Need-shared-slice-read-result
 shared-slice-read-result c = search needs
 
 returns-2 : tie.Need-returns-2
-returns-2 c = sym (read-program _ _ _ (c .before .before .before .if1 .taken) (sym (c .before .before .is-protected .ensures) ∙ c .before .if2 .left))
+returns-2 c = sym (read-program _ _ _ (c .before .before .before .before .if1 .taken) (sym (c .before .before .before .is-protected .ensures) ∙ c .before .before .if2 .left))
 
 entry-of-requires : tie.Need-entry-of-requires
 entry-of-requires c κs = search needs
@@ -42,6 +45,7 @@ word-at-spec =
     (tie.spec
     is-protected-requires
     returns
+    cast-result
     mul-result
     shared-slice-read-result
     returns-2

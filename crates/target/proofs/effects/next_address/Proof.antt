@@ -14,12 +14,12 @@ returns-2 : tie.Need-returns-2
 unfolding successor pick
 returns-2 c = search (tests, needs)
 
-add-result : tie.Need-add-result
-add-result c = search needs
+add-t3 : tie.Need-add-t3
+add-t3 c = search needs
 
 returns-3 : tie.Need-returns-3
 unfolding successor pick
 returns-3 c = search (tests, needs)
 
 pub next-address-spec : {M : Type 1} → statement M
-next-address-spec = tie.close (tie.spec returns returns-2 add-result returns-3)
+next-address-spec = tie.close (tie.spec returns returns-2 add-t3 returns-3)

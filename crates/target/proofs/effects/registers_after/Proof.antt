@@ -18,16 +18,16 @@ enum-known-order-2 : tie.Need-enum-known-order-2
 enum-known-order-2 c = search needs
 
 rem-latch : tie.Need-rem-latch
-rem-latch c = let v = row _ (c .before .before .before .before .pre .row-is) in omega arith
+rem-latch c = let v = row _ (c .before .before .before .before .before .before .pre .row-is) in omega arith
 
 cast-latch : tie.Need-cast-latch
-cast-latch c = let v = row _ (c .before .before .before .before .pre .row-is) in let m : c .before .before .before .before .args .r .counter .0 % c .before .before .before .before .args .d .row < c .before .before .before .before .args .d .row = mod-lt _ (omega arith) in omega arith
+cast-latch c = let v = row _ (c .before .before .before .before .before .before .pre .row-is) in let m : c .before .before .before .before .before .before .args .r .counter .0 % c .before .before .before .before .before .before .args .d .row < c .before .before .before .before .before .before .args .d .row = mod-lt _ (omega arith) in omega arith
 
 mul-next : tie.Need-mul-next
-mul-next c = let v = row _ (c .before .before .before .before .pre .row-is) in let m : c .before .before .before .before .args .r .counter .0 % c .before .before .before .before .args .d .row < c .before .before .before .before .args .d .row = mod-lt _ (omega arith) in omega arith
+mul-next c = let v = row _ (c .before .before .before .before .before .before .pre .row-is) in let m : c .before .before .before .before .before .before .args .r .counter .0 % c .before .before .before .before .before .before .args .d .row < c .before .before .before .before .before .before .args .d .row = mod-lt _ (omega arith) in omega arith
 
 element-write-next-2 : tie.Need-element-write-next-2
-element-write-next-2 c = let v = row _ (c .before .before .before .before .pre .row-is) in let m : c .before .before .before .before .args .r .counter .0 % c .before .before .before .before .args .d .row < c .before .before .before .before .args .d .row = mod-lt _ (omega arith) in omega arith
+element-write-next-2 c = let v = row _ (c .before .before .before .before .before .before .pre .row-is) in let m : c .before .before .before .before .before .before .args .r .counter .0 % c .before .before .before .before .before .before .args .d .row < c .before .before .before .before .before .before .args .d .row = mod-lt _ (omega arith) in omega arith
 
 enum-told : tie.Need-enum-told
 enum-told c = search needs
