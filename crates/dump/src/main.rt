@@ -1,9 +1,9 @@
 // Prints a board's sheet as HEX text, or why it is refused: device.tab and board.txt, or the two files that the arguments name.
 fn main() {
     let mut table = io::buffer();
-    let t = files::read_whole(files::open(1, b"device.tab"), &mut table);
+    let t = files::read(files::open(1, b"device.tab"), &mut table);
     let mut sheet = io::large_buffer();
-    let s = files::read_whole(files::open(2, b"board.txt"), &mut sheet);
+    let s = files::read(files::open(2, b"board.txt"), &mut sheet);
     let mut out = [0u8; 114844];
     let n = bench::dump(&table[..t], &sheet[..s], &mut out);
     files::show(&out, n);

@@ -13,19 +13,8 @@ pub fn open(argument: usize, name: &[u8]) -> i32 {
     os::open_read(&path[..n])
 }
 
-// Reads a whole file and closes it. One that is not open or cannot be read, or has more bytes than the buffer, counts as empty.
-pub fn read_whole(fd: i32, buffer: &mut [u8]) -> usize
-    ensures { λ r. ⌜ Counts r (now (buffer .exit)) ⌝ }
-{
-    let n = io::read_full(fd, buffer);
-    if ends_here(fd) {
-        return n;
-    }
-    0
-}
-
-// Reads as much of a file as the buffer takes and closes it, for a text whose length is judged later. One that is not open or cannot be read counts as empty.
-pub fn read_start(fd: i32, buffer: &mut [u8]) -> usize
+// Reads as much of a file as the buffer takes and closes it. One that is not open or cannot be read counts as empty.
+pub fn read(fd: i32, buffer: &mut [u8]) -> usize
     ensures { λ r. ⌜ Counts r (now (buffer .exit)) ⌝ }
 {
     let taken = io::read_full(fd, buffer);

@@ -17,7 +17,7 @@ const PIC16F1459: Device = Device {
 // Reads the file of this name and prints what came of it.
 pub(crate) fn file(name: &[u8]) {
     let mut text = io::large_buffer();
-    let n = files::read_whole(os::open_read(name), &mut text);
+    let n = files::read(os::open_read(name), &mut text);
     let mut image = [NOT_GIVEN; 8201];
     let r = ihex::read_hex(PIC16F1459, &text[..n], &mut image);
     io::write_all(STDOUT_FILENO, name);

@@ -8,11 +8,11 @@ fn name(case: &[u8]) {
 
 pub fn update(case: &[u8], table: &[u8], sheet: &[u8], hex: &[u8]) {
     let mut a = io::buffer();
-    let t = files::read_whole(os::open_read(table), &mut a);
+    let t = files::read(os::open_read(table), &mut a);
     let mut b = io::large_buffer();
-    let s = files::read_whole(os::open_read(sheet), &mut b);
+    let s = files::read(os::open_read(sheet), &mut b);
     let mut c = [0u8; 65537];
-    let h = files::read_start(os::open_read(hex), &mut c);
+    let h = files::read(os::open_read(hex), &mut c);
     let mut out = [0u8; 147632];
     let n = bench::update(&a[..t], &b[..s], &c[..h], &mut out);
     name(case);
@@ -21,11 +21,11 @@ pub fn update(case: &[u8], table: &[u8], sheet: &[u8], hex: &[u8]) {
 
 pub fn fresh(case: &[u8], table: &[u8], sheet: &[u8], hex: &[u8]) {
     let mut a = io::buffer();
-    let t = files::read_whole(os::open_read(table), &mut a);
+    let t = files::read(os::open_read(table), &mut a);
     let mut b = io::large_buffer();
-    let s = files::read_whole(os::open_read(sheet), &mut b);
+    let s = files::read(os::open_read(sheet), &mut b);
     let mut c = [0u8; 65537];
-    let h = files::read_start(os::open_read(hex), &mut c);
+    let h = files::read(os::open_read(hex), &mut c);
     let mut out = [0u8; 147632];
     let n = bench::fresh(&a[..t], &b[..s], &c[..h], &mut out);
     name(case);
@@ -34,11 +34,11 @@ pub fn fresh(case: &[u8], table: &[u8], sheet: &[u8], hex: &[u8]) {
 
 pub fn trial(case: &[u8], table: &[u8], sheet: &[u8], stream: &[u8]) {
     let mut a = io::buffer();
-    let t = files::read_whole(os::open_read(table), &mut a);
+    let t = files::read(os::open_read(table), &mut a);
     let mut b = io::large_buffer();
-    let s = files::read_whole(os::open_read(sheet), &mut b);
+    let s = files::read(os::open_read(sheet), &mut b);
     let mut c = [0u8; 262145];
-    let p = files::read_start(os::open_read(stream), &mut c);
+    let p = files::read(os::open_read(stream), &mut c);
     let mut out = [0u8; 46135];
     let n = bench::trial(&a[..t], &b[..s], &c[..p], &mut out);
     name(case);
@@ -47,9 +47,9 @@ pub fn trial(case: &[u8], table: &[u8], sheet: &[u8], stream: &[u8]) {
 
 pub fn readback(case: &[u8], table: &[u8], sheet: &[u8]) {
     let mut a = io::buffer();
-    let t = files::read_whole(os::open_read(table), &mut a);
+    let t = files::read(os::open_read(table), &mut a);
     let mut b = io::large_buffer();
-    let s = files::read_whole(os::open_read(sheet), &mut b);
+    let s = files::read(os::open_read(sheet), &mut b);
     let mut out = [0u8; 147632];
     let n = bench::readback(&a[..t], &b[..s], &mut out);
     name(case);
@@ -58,9 +58,9 @@ pub fn readback(case: &[u8], table: &[u8], sheet: &[u8]) {
 
 pub fn checksum(case: &[u8], table: &[u8], sheet: &[u8]) {
     let mut a = io::buffer();
-    let t = files::read_whole(os::open_read(table), &mut a);
+    let t = files::read(os::open_read(table), &mut a);
     let mut b = io::large_buffer();
-    let s = files::read_whole(os::open_read(sheet), &mut b);
+    let s = files::read(os::open_read(sheet), &mut b);
     let mut out = [0u8; 64];
     let n = bench::checksum(&a[..t], &b[..s], &mut out);
     name(case);
@@ -69,9 +69,9 @@ pub fn checksum(case: &[u8], table: &[u8], sheet: &[u8]) {
 
 pub fn dump(case: &[u8], table: &[u8], sheet: &[u8]) {
     let mut a = io::buffer();
-    let t = files::read_whole(os::open_read(table), &mut a);
+    let t = files::read(os::open_read(table), &mut a);
     let mut b = io::large_buffer();
-    let s = files::read_whole(os::open_read(sheet), &mut b);
+    let s = files::read(os::open_read(sheet), &mut b);
     let mut out = [0u8; 114844];
     let n = bench::dump(&a[..t], &b[..s], &mut out);
     name(case);
@@ -80,11 +80,11 @@ pub fn dump(case: &[u8], table: &[u8], sheet: &[u8]) {
 
 pub fn verify(case: &[u8], table: &[u8], sheet: &[u8], wanted: &[u8]) {
     let mut a = io::buffer();
-    let t = files::read_whole(os::open_read(table), &mut a);
+    let t = files::read(os::open_read(table), &mut a);
     let mut b = io::large_buffer();
-    let s = files::read_whole(os::open_read(sheet), &mut b);
+    let s = files::read(os::open_read(sheet), &mut b);
     let mut c = io::large_buffer();
-    let w = files::read_whole(os::open_read(wanted), &mut c);
+    let w = files::read(os::open_read(wanted), &mut c);
     let mut out = [0u8; 64];
     let n = bench::verify(&a[..t], &b[..s], &c[..w], &mut out);
     name(case);

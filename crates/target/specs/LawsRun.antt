@@ -12,7 +12,7 @@ use lib.ListN.{length, getD, replicate}
 use borrow.Author.Tests.{eq-eqb, ne-eqb}
 use Rattle.words.specs.Choice.{pick}
 use Rattle.words.specs.Word.{erased}
-use Rattle.words.specs.LawsChoice.{pick-true, pick-false}
+use Rattle.words.specs.LawsChoice.{pick-true, pick-false, pick-same}
 use Rattle.words.specs.LawsWord.{words-long}
 use Rattle.device.specs.declared.Device.{Device}
 use Rattle.device.specs.Record.{deviceOk}
@@ -143,7 +143,7 @@ module _ (d : Device) (stream words₀ cells₀ : List ℕ) where
               ∙ ap (λ t. stands t (done + 1) 0) (sym (a .leaves)))));
         }
 
-    pub going-stops : (number ≡ 0 → ⊥) → (steps : ℕ) → done < steps → Goes d stream steps words₀ cells₀ (record { number = number; steps = done; words = read }) words′ cells′
+    pub going-stops : (number ≡ 0 → ⊥) → (steps : ℕ) → done < steps → Goes d stream steps words₀ cells₀ (record { number = number; steps = done; words = 0 }) words′ cells′
     going-stops h steps p =
         record {
           answers = named ∙ ap answered (sym whole);
@@ -151,8 +151,8 @@ module _ (d : Device) (stream words₀ cells₀ : List ℕ) where
           cells-left = ap (λ t. t .cells) same ∙ ap (λ x. x .target .cells) (sym whole);
         }
       where
-        named : record { number = number; steps = done; words = read } ≡ answered (stands (target r read words cells) done number)
-        named = unfold answered in refl
+        named : record { number = number; steps = done; words = 0 } ≡ answered (stands (target r read words cells) done number)
+        named = unfold answered in ap (λ w. record { number = number; steps = done; words = w }) (sym (pick-false (eqb number 0) read 0 (ne-eqb number 0 h)))
 
         stop : turn (chipOf d) stream (stands (target r read words cells) done 0) ≡ stands (target r read words cells) done number
         stop = turn-refused (chipOf d) stream (target r read words cells) done number (sym (a .refuses)) h
@@ -175,7 +175,7 @@ module _ (d : Device) (stream words₀ cells₀ : List ℕ) where
       }
     where
       named : record { number = 0; steps = done; words = read } ≡ answered (stands (target r read words cells) done 0)
-      named = unfold answered in refl
+      named = unfold answered pick in refl
 
       whole : after (chipOf d) stream (begun (chipOf d) cells₀ words₀) steps ≡ stands (target r read words cells) done 0
       whole = ap (after (chipOf d) stream (begun (chipOf d) cells₀ words₀)) (sym e) ∙ so .at
@@ -229,7 +229,7 @@ module _ (d : Device) (stream : List ℕ) (allowance : ℕ) (words cells : List 
           opened = unfold ran fresh in pick-false (eqb (runRefusal d stream cells) 0) _ _ (ne-eqb _ 0 (λ q. h (e ∙ q)))
 
       named : record { number = n; steps = 0; words = 0 } ≡ answered (stands (target (entered (chipOf d)) 0 words cells) 0 n)
-      named = unfold answered in refl
+      named = unfold answered in ap (λ w. record { number = n; steps = 0; words = w }) (sym (pick-same (eqb n 0) 0))
 
   pub run-goes : (n steps : ℕ) → n ≡ runRefusal d stream cells → n ≡ 0 → steps ≡ min allowance (length stream / 3)
       → (a : Ran) (words′ cells′ : List ℕ) → Goes d stream steps words cells a words′ cells′ → Runs d stream allowance words cells a words′ cells′

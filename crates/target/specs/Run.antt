@@ -58,9 +58,9 @@ ran d stream allowance cells words =
     pick (eqb (runRefusal d stream cells) 0) (ranOn d stream allowance cells words)
     (record { target = fresh (entered (chipOf d)) cells words; done = 0; number = runRefusal d stream cells })
 
--- what the call answers: the number, the steps completed, the words read
+-- what the call answers: the number, the steps completed and, without refusal, how many words were read
 unfoldable pub answered : Run → Ran
-answered r = record { number = r .number; steps = r .done; words = r .target .read }
+answered r = record { number = r .number; steps = r .done; words = pick (eqb (r .number) 0) (r .target .read) 0 }
 
 -- what a run promises: its answer, the words read and the cells afterwards
 pub record Runs (d : Device) (stream : List ℕ) (allowance : ℕ) (words cells : List ℕ) (a : Ran) (words′ cells′ : List ℕ) : Type 0 where

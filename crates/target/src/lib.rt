@@ -41,7 +41,7 @@ pub struct Stepped {
     pub registers: Registers,
 }
 
-// What a run answers: 0 or the refusal that stopped it, the steps completed, and the words read.
+// What a run answers: 0 or the refusal that stopped it, the steps completed, and how many words were read, 0 with a refusal.
 pub struct Ran {
     pub number: u8,
     pub steps: usize,

@@ -60,7 +60,7 @@ fn go(d: Device, cells: &mut [u16], stream: &[u8], steps: usize, words: &mut [u1
             return Ran {
                 number,
                 steps: done,
-                words: read,
+                words: 0,
             };
         }
         registers = o.registers;
