@@ -1,0 +1,155 @@
+//! What each program prints, from the content of its files.
+
+use crate::device::{find, Device};
+use crate::words::{capital, spelled, NOT_GIVEN, WORD_MAX};
+use crate::{hex, judge, model, sheet, streams};
+
+/// The most lines of a printed stream that `trial` plays.
+pub const TRIAL_LINES: usize = 32_768;
+
+/// A program's text with the number it stands for (verify's 40 and 41 are numbers of an answer).
+pub struct Printed {
+    pub number: u32,
+    pub text: Vec<u8>,
+}
+
+type Refusal = (u32, usize);
+
+fn printed(result: Result<(u32, Vec<u8>), Refusal>) -> Printed {
+    match result {
+        Ok((number, text)) => Printed { number, text },
+        Err((number, line)) => Printed {
+            number,
+            text: format!("refused\t{number}\t{line}\n").into_bytes(),
+        },
+    }
+}
+
+/// The device of a sheet's first line: 15, 14 for that line, 16.
+fn device_of(table: &[u8], sheet: &[u8]) -> Result<Device, Refusal> {
+    // A malformed table is told before the sheet is looked at, whatever ID would be asked for.
+    if crate::device::table(table).is_none() {
+        return Err((15, 0));
+    }
+    let id = sheet::first_line(sheet).ok_or((14, 0))?;
+    find(table, id)
+        .map(|l| l.device)
+        .map_err(|number| (number, 0))
+}
+
+/// Device and reading: the above, then 14 for the rest of the sheet.
+fn board(table: &[u8], sheet: &[u8]) -> Result<(Device, Vec<u16>), Refusal> {
+    let d = device_of(table, sheet)?;
+    let reading = sheet::reading(&d, sheet).ok_or((14, 0))?;
+    Ok((d, reading))
+}
+
+/// Code, tab, payload, a line a step.
+pub fn stream_text(stream: &[u8]) -> Vec<u8> {
+    stream
+        .chunks(3)
+        .flat_map(|s| format!("{:02X}\t{:02X}{:02X}\n", s[0], s[2], s[1]).into_bytes())
+        .collect()
+}
+
+pub fn checksum(table: &[u8], sheet: &[u8]) -> Printed {
+    printed(board(table, sheet).and_then(|(d, reading)| {
+        let sum = judge::checksum(&d, &reading).map_err(|number| (number, 0))?;
+        Ok((0, format!("{sum:04X}\n").into_bytes()))
+    }))
+}
+
+pub fn verify(table: &[u8], sheet: &[u8], wanted: &[u8]) -> Printed {
+    printed(board(table, sheet).and_then(|(d, reading)| {
+        let wanted = sheet::reading(&d, wanted).ok_or((14, 0))?;
+        let (number, address, count) = judge::verify(&d, &wanted, &reading);
+        let text = match number {
+            40 => format!("40\t{address:04X}\t{count}\n"),
+            _ => format!("{number}\n"),
+        };
+        Ok((number, text.into_bytes()))
+    }))
+}
+
+/// Reads line 1 of the sheet alone.
+pub fn readback(table: &[u8], sheet: &[u8]) -> Printed {
+    printed(device_of(table, sheet).map(|d| (0, stream_text(&streams::read_back_stream(&d)))))
+}
+
+pub fn update(table: &[u8], sheet: &[u8], text: &[u8]) -> Printed {
+    printed(board(table, sheet).and_then(|(d, reading)| {
+        let image = hex::image(&d, text, hex::PROGRAM_TEXT_MAX)?;
+        if let Some(number) = streams::update_refusal(&d, &image, &reading) {
+            return Err((number, 0));
+        }
+        let wanted = streams::wanted_over(&image, &reading);
+        Ok((
+            0,
+            stream_text(&streams::update_stream(&d, &wanted, &reading)),
+        ))
+    }))
+}
+
+pub fn fresh(table: &[u8], sheet: &[u8], text: &[u8]) -> Printed {
+    printed(board(table, sheet).and_then(|(d, reading)| {
+        let image = hex::image(&d, text, hex::PROGRAM_TEXT_MAX)?;
+        if reading[d.p() + 6] != d.id {
+            return Err((22, 0));
+        }
+        Ok((
+            0,
+            stream_text(&streams::fresh_stream(&d, &streams::wanted_blank(&image))),
+        ))
+    }))
+}
+
+/// A step of a printed line: two capital digits, a tab, four.
+fn printed_step(line: &[u8]) -> Option<[u8; 3]> {
+    if line.len() != 7 || line[2] != b'\t' {
+        return None;
+    }
+    let code = spelled(line, 0, 2, capital)? as u8;
+    let [low, high] = (spelled(line, 3, 4, capital)? as u16).to_le_bytes();
+    Some([code, low, high])
+}
+
+/// The steps of a printed stream; the first line that is none, or is one too many, is 34.
+fn steps_of(text: &[u8]) -> Result<Vec<u8>, Refusal> {
+    // After the last LF there is a line only if anything stands there.
+    let body = text.strip_suffix(b"\n").unwrap_or(text);
+    let mut stream = Vec::new();
+    if text.is_empty() {
+        return Ok(stream);
+    }
+    for (i, line) in body.split(|&c| c == b'\n').enumerate() {
+        let step = printed_step(line).filter(|_| i < TRIAL_LINES);
+        stream.extend(step.ok_or((34, i + 1))?);
+    }
+    Ok(stream)
+}
+
+/// The sheet after a whole run; as in a run, the stream's form is judged before its first step.
+pub fn trial(table: &[u8], sheet: &[u8], text: &[u8]) -> Printed {
+    printed(board(table, sheet).and_then(|(d, reading)| {
+        let stream = steps_of(text)?;
+        let mut cells = reading;
+        cells.extend([WORD_MAX; 2]);
+        let mut words = vec![0; TRIAL_LINES];
+        let run = model::run(&d, &mut cells, &stream, u64::MAX, &mut words);
+        if run.number != 0 {
+            return Err((run.number, run.steps as usize + 1));
+        }
+        Ok((0, sheet::text(&d, &cells[..d.entries()])))
+    }))
+}
+
+/// The image that gives every word which a file may give.
+pub fn whole_image(d: &Device, reading: &[u16]) -> Vec<u16> {
+    let mut image = reading.to_vec();
+    image[d.p() + 4..d.p() + 7].fill(NOT_GIVEN);
+    image
+}
+
+pub fn dump(table: &[u8], sheet: &[u8]) -> Printed {
+    printed(board(table, sheet).map(|(d, reading)| (0, hex::text(&d, &whole_image(&d, &reading)))))
+}

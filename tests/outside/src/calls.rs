@@ -1,0 +1,603 @@
+//! Every call that can be asked: its name, the kinds of its fields, the numbers it can give, and our own answer.
+
+use crate::device::{self, Device};
+use crate::field::Kind::{self, Bytes, Latches, Num, Words};
+use crate::field::{self, Field};
+use crate::model::{self, Registers};
+use crate::words as w;
+use crate::{bench, hex, judge, sheet, streams};
+
+/// An answer's fields, and the number that it is counted under.
+pub struct Reply {
+    pub class: u32,
+    pub fields: Vec<Field>,
+}
+
+pub struct Call {
+    pub name: &'static str,
+    pub kinds: &'static [Kind],
+    /// The classes that the call can answer: refusal numbers; of a call without these, 0 and 1 as `CLASSES` says.
+    pub classes: &'static [u32],
+    pub own: fn(&[Field]) -> Reply,
+}
+
+/// What 0 and 1 mean for calls that give no refusal numbers.
+pub const CLASSES: &str =
+    "words.*: 0 found or done, 1 nothing there (no room); is_words, is_image: the answer";
+
+#[derive(Clone, Debug)]
+pub struct Request {
+    pub call: usize,
+    pub fields: Vec<Field>,
+}
+
+impl Request {
+    /// A request by the call's name, which must be in the table.
+    pub fn new(name: &str, fields: Vec<Field>) -> Request {
+        let call = CALLS
+            .iter()
+            .position(|c| c.name == name)
+            .expect("a call of the table");
+        Request { call, fields }
+    }
+
+    pub fn call(&self) -> &'static Call {
+        &CALLS[self.call]
+    }
+
+    pub fn line(&self) -> Vec<u8> {
+        field::line(self.call().name, &self.fields)
+    }
+
+    pub fn own(&self) -> Reply {
+        (self.call().own)(&self.fields)
+    }
+}
+
+/// A request line without its LF, or why it is malformed.
+pub fn parse(line: &[u8]) -> Result<Request, &'static str> {
+    let mut parts = line.split(|&c| c == b' ');
+    let name = parts.next().unwrap_or_default();
+    let call = CALLS
+        .iter()
+        .position(|c| c.name.as_bytes() == name)
+        .ok_or("no call has that name")?;
+    let kinds = CALLS[call].kinds;
+    let texts: Vec<&[u8]> = parts.collect();
+    if texts.len() < kinds.len() {
+        return Err("a field is missing");
+    }
+    if texts.len() > kinds.len() {
+        return Err("a field too many");
+    }
+    let fields: Option<Vec<Field>> = texts
+        .iter()
+        .zip(kinds)
+        .map(|(t, &k)| field::parse(t, k))
+        .collect();
+    Ok(Request {
+        call,
+        fields: fields.ok_or("a field is not of its kind")?,
+    })
+}
+
+const D: usize = 5;
+
+fn device_at(f: &[Field]) -> Device {
+    let n = |i| field::num(f, i) as u16;
+    Device {
+        id: n(0),
+        words: n(1),
+        row: n(2),
+        mask1: n(3),
+        mask2: n(4),
+    }
+}
+
+pub fn device_fields(d: &Device) -> Vec<Field> {
+    [d.id, d.words, d.row, d.mask1, d.mask2]
+        .map(Field::from)
+        .to_vec()
+}
+
+fn n16(f: &[Field], i: usize) -> u16 {
+    field::num(f, i) as u16
+}
+
+fn n8(f: &[Field], i: usize) -> u8 {
+    field::num(f, i) as u8
+}
+
+fn reply(class: u32, fields: Vec<Field>) -> Reply {
+    Reply { class, fields }
+}
+
+/// An answer that is one number, or the convention for nothing.
+fn or_none(found: Option<u64>, none: u64) -> Reply {
+    reply(
+        u32::from(found.is_none()),
+        vec![found.unwrap_or(none).into()],
+    )
+}
+
+/// A place that may be nowhere.
+fn place(found: Option<u16>) -> Reply {
+    reply(
+        u32::from(found.is_none()),
+        vec![u64::from(found.is_some()).into(), found.unwrap_or(0).into()],
+    )
+}
+
+fn truth(b: bool) -> Reply {
+    reply(u32::from(b), vec![u64::from(b).into()])
+}
+
+fn spelled(f: &[Field], count: usize, value: fn(u8) -> Option<u8>, none: u32) -> Reply {
+    let found = w::spelled(field::bytes(f, 0), field::num(f, 1), count, value);
+    or_none(found.map(u64::from), none.into())
+}
+
+fn put(f: &[Field], text: &[u8]) -> Reply {
+    let mut out = field::bytes(f, 0).to_vec();
+    let at = field::num(f, 1);
+    let short = u128::from(at) + text.len() as u128 > out.len() as u128;
+    w::put(&mut out, at, text);
+    reply(u32::from(short), vec![out.into()])
+}
+
+/// Number, a value, and a lent buffer of bytes.
+fn written(number: u32, value: usize, out: Vec<u8>) -> Reply {
+    reply(number, vec![number.into(), value.into(), out.into()])
+}
+
+/// A program's text in the lent buffer, as far as there is room; its whole length.
+fn shown(printed: &bench::Printed, out: &[u8]) -> Reply {
+    let mut out = out.to_vec();
+    let room = printed.text.len().min(out.len());
+    out[..room].copy_from_slice(&printed.text[..room]);
+    reply(printed.number, vec![printed.text.len().into(), out.into()])
+}
+
+fn find_device(f: &[Field]) -> Reply {
+    let (number, d, name) = match device::find(field::bytes(f, 0), n16(f, 1)) {
+        Ok(listed) => (0, listed.device, listed.name),
+        Err(n) => (
+            n,
+            Device {
+                id: 0,
+                words: 0,
+                row: 0,
+                mask1: 0,
+                mask2: 0,
+            },
+            0..0,
+        ),
+    };
+    let mut fields = vec![number.into()];
+    fields.extend(device_fields(&d));
+    fields.extend([name.start.into(), name.len().into()]);
+    reply(number, fields)
+}
+
+fn step(f: &[Field]) -> Reply {
+    let mut latches = [0; model::LATCHES];
+    latches.copy_from_slice(field::words(f, D + 1));
+    let mut registers = Registers {
+        counter: n16(f, D),
+        latches,
+    };
+    let mut words = field::words(f, D + 4).to_vec();
+    let mut cells = field::words(f, D + 5).to_vec();
+    let d = device_at(f);
+    let number = model::step(
+        &d,
+        &mut registers,
+        n8(f, D + 2),
+        n16(f, D + 3),
+        &mut words,
+        &mut cells,
+    );
+    let latches = registers.latches.to_vec();
+    reply(
+        number,
+        vec![
+            number.into(),
+            registers.counter.into(),
+            latches.into(),
+            words.into(),
+            cells.into(),
+        ],
+    )
+}
+
+fn run(f: &[Field]) -> Reply {
+    let mut cells = field::words(f, D).to_vec();
+    let mut words = field::words(f, D + 3).to_vec();
+    let stream = field::bytes(f, D + 1);
+    let run = model::run(
+        &device_at(f),
+        &mut cells,
+        stream,
+        field::num(f, D + 2),
+        &mut words,
+    );
+    reply(
+        run.number,
+        vec![
+            run.number.into(),
+            run.steps.into(),
+            run.read.into(),
+            cells.into(),
+            words.into(),
+        ],
+    )
+}
+
+/// The table of calls.
+pub static CALLS: &[Call] = &[
+    Call {
+        name: "words.double",
+        kinds: &[Num(16)],
+        classes: &[0],
+        own: |f| reply(0, vec![w::double(n16(f, 0)).into()]),
+    },
+    Call {
+        name: "words.halve",
+        kinds: &[Num(64)],
+        classes: &[0, 1],
+        own: |f| place(w::halve(field::num(f, 0))),
+    },
+    Call {
+        name: "words.entry_of",
+        kinds: &[Num(16), Num(16), Num(8), Num(16)],
+        classes: &[0, 1],
+        own: |f| {
+            let (base, words, tail) = (n16(f, 0), n16(f, 1), n8(f, 2));
+            let found = w::entry_of(base, words, tail, n16(f, 3));
+            or_none(found.map(|e| e as u64), w::no_entry(words, tail))
+        },
+    },
+    Call {
+        name: "words.address_of",
+        kinds: &[Num(16), Num(16), Num(8), Num(64)],
+        classes: &[0, 1],
+        own: |f| {
+            place(w::address_of(
+                n16(f, 0),
+                n16(f, 1),
+                n8(f, 2),
+                field::num(f, 3),
+            ))
+        },
+    },
+    Call {
+        name: "words.digit",
+        kinds: &[Num(8)],
+        classes: &[0, 1],
+        own: |f| or_none(w::digit(n8(f, 0)).map(u64::from), w::NO_DIGIT.into()),
+    },
+    Call {
+        name: "words.capital",
+        kinds: &[Num(8)],
+        classes: &[0, 1],
+        own: |f| or_none(w::capital(n8(f, 0)).map(u64::from), w::NO_DIGIT.into()),
+    },
+    Call {
+        name: "words.byte",
+        kinds: &[Bytes, Num(64)],
+        classes: &[0, 1],
+        own: |f| spelled(f, 2, w::digit, w::NO_BYTE),
+    },
+    Call {
+        name: "words.word",
+        kinds: &[Bytes, Num(64)],
+        classes: &[0, 1],
+        own: |f| spelled(f, 4, w::digit, w::NO_WORD),
+    },
+    Call {
+        name: "words.capital_byte",
+        kinds: &[Bytes, Num(64)],
+        classes: &[0, 1],
+        own: |f| spelled(f, 2, w::capital, w::NO_BYTE),
+    },
+    Call {
+        name: "words.capital_word",
+        kinds: &[Bytes, Num(64)],
+        classes: &[0, 1],
+        own: |f| spelled(f, 4, w::capital, w::NO_WORD),
+    },
+    Call {
+        name: "words.put",
+        kinds: &[Bytes, Num(64), Num(8)],
+        classes: &[0, 1],
+        own: |f| put(f, &[n8(f, 2)]),
+    },
+    Call {
+        name: "words.put_byte",
+        kinds: &[Bytes, Num(64), Num(8)],
+        classes: &[0, 1],
+        own: |f| put(f, &w::byte_text(n8(f, 2))),
+    },
+    Call {
+        name: "words.put_word",
+        kinds: &[Bytes, Num(64), Num(16)],
+        classes: &[0, 1],
+        own: |f| put(f, &w::word_text(n16(f, 2))),
+    },
+    Call {
+        name: "words.decimal",
+        kinds: &[Bytes, Num(32)],
+        classes: &[0, 1],
+        own: |f| {
+            let bound = field::num(f, 1) as u32;
+            let found = w::decimal(field::bytes(f, 0), bound);
+            or_none(found.map(u64::from), w::no_decimal(bound))
+        },
+    },
+    Call {
+        name: "words.is_words",
+        kinds: &[Words, Num(64)],
+        classes: &[0, 1],
+        own: |f| truth(w::is_words(field::words(f, 0), field::num(f, 1))),
+    },
+    Call {
+        name: "device.judge",
+        kinds: &[Num(16), Num(16), Num(16), Num(16), Num(16)],
+        classes: &[0, 13],
+        own: |f| {
+            let number = if device_at(f).lawful() { 0 } else { 13 };
+            reply(number, vec![number.into()])
+        },
+    },
+    Call {
+        name: "device.judge_table",
+        kinds: &[Bytes],
+        classes: &[0, 15],
+        own: |f| {
+            let number = if device::table(field::bytes(f, 0)).is_some() {
+                0
+            } else {
+                15
+            };
+            reply(number, vec![number.into()])
+        },
+    },
+    Call {
+        name: "device.find_device",
+        kinds: &[Bytes, Num(16)],
+        classes: &[0, 15, 16],
+        own: find_device,
+    },
+    Call {
+        name: "device.is_image",
+        kinds: &[Num(16), Words],
+        classes: &[0, 1],
+        own: |f| truth(device::is_image(usize::from(n16(f, 0)), field::words(f, 1))),
+    },
+    Call {
+        name: "judge.checksum",
+        kinds: &[Num(16), Num(16), Num(16), Num(16), Num(16), Words],
+        classes: &[0, 13, 21],
+        own: |f| {
+            let (number, sum) = match judge::checksum(&device_at(f), field::words(f, D)) {
+                Ok(sum) => (0, sum),
+                Err(number) => (number, 0),
+            };
+            reply(number, vec![number.into(), sum.into()])
+        },
+    },
+    Call {
+        name: "judge.verify",
+        kinds: &[Num(16), Num(16), Num(16), Num(16), Num(16), Words, Words],
+        classes: &[0, 13, 21, 40, 41],
+        own: |f| {
+            let (number, address, count) =
+                judge::verify(&device_at(f), field::words(f, D), field::words(f, D + 1));
+            reply(number, vec![number.into(), address.into(), count.into()])
+        },
+    },
+    Call {
+        name: "sheet.read_sheet",
+        kinds: &[Num(16), Num(16), Num(16), Num(16), Num(16), Bytes, Words],
+        classes: &[0, 12, 13, 14],
+        own: |f| {
+            let mut buffer = field::words(f, D + 1).to_vec();
+            let number = sheet::read(&device_at(f), field::bytes(f, D), &mut buffer);
+            reply(number, vec![number.into(), buffer.into()])
+        },
+    },
+    Call {
+        name: "sheet.read_id",
+        kinds: &[Bytes],
+        classes: &[0, 14],
+        own: |f| {
+            let id = sheet::first_line(field::bytes(f, 0));
+            let number: u32 = if id.is_some() { 0 } else { 14 };
+            reply(number, vec![number.into(), id.unwrap_or(0).into()])
+        },
+    },
+    Call {
+        name: "sheet.write_sheet",
+        kinds: &[Num(16), Num(16), Num(16), Num(16), Num(16), Words, Bytes],
+        classes: &[0, 13, 21, 26],
+        own: |f| {
+            let mut out = field::bytes(f, D + 1).to_vec();
+            let (number, length) = sheet::write(&device_at(f), field::words(f, D), &mut out);
+            written(number, length, out)
+        },
+    },
+    Call {
+        name: "ihex.read_hex",
+        kinds: &[Num(16), Num(16), Num(16), Num(16), Num(16), Bytes, Words],
+        classes: &[0, 1, 2, 3, 4, 5, 6, 7, 8, 9, 10, 11, 12, 13],
+        own: |f| {
+            let mut image = field::words(f, D + 1).to_vec();
+            let (number, line) = hex::read(&device_at(f), field::bytes(f, D), &mut image);
+            reply(number, vec![number.into(), line.into(), image.into()])
+        },
+    },
+    Call {
+        name: "ihex.write_hex",
+        kinds: &[Num(16), Num(16), Num(16), Num(16), Num(16), Words, Bytes],
+        classes: &[0, 13, 20, 26],
+        own: |f| {
+            let mut out = field::bytes(f, D + 1).to_vec();
+            let (number, length) = hex::write(&device_at(f), field::words(f, D), &mut out);
+            written(number, length, out)
+        },
+    },
+    Call {
+        name: "target.step",
+        kinds: &[
+            Num(16),
+            Num(16),
+            Num(16),
+            Num(16),
+            Num(16),
+            Num(16),
+            Latches,
+            Num(8),
+            Num(16),
+            Words,
+            Words,
+        ],
+        classes: &[0, 13, 30, 31, 32, 33, 35],
+        own: step,
+    },
+    Call {
+        name: "target.run",
+        kinds: &[
+            Num(16),
+            Num(16),
+            Num(16),
+            Num(16),
+            Num(16),
+            Words,
+            Bytes,
+            Num(64),
+            Words,
+        ],
+        classes: &[0, 13, 30, 31, 32, 33, 34, 35],
+        own: run,
+    },
+    Call {
+        name: "plan.update",
+        kinds: &[
+            Num(16),
+            Num(16),
+            Num(16),
+            Num(16),
+            Num(16),
+            Words,
+            Words,
+            Bytes,
+        ],
+        classes: &[0, 13, 20, 21, 22, 23, 24, 26],
+        own: |f| {
+            let mut out = field::bytes(f, D + 2).to_vec();
+            let d = device_at(f);
+            let (number, steps) =
+                streams::update(&d, field::words(f, D), field::words(f, D + 1), &mut out);
+            written(number, steps, out)
+        },
+    },
+    Call {
+        name: "plan.fresh",
+        kinds: &[
+            Num(16),
+            Num(16),
+            Num(16),
+            Num(16),
+            Num(16),
+            Words,
+            Num(16),
+            Bytes,
+        ],
+        classes: &[0, 13, 20, 22, 26],
+        own: |f| {
+            let mut out = field::bytes(f, D + 2).to_vec();
+            let d = device_at(f);
+            let (number, steps) = streams::fresh(&d, field::words(f, D), n16(f, D + 1), &mut out);
+            written(number, steps, out)
+        },
+    },
+    Call {
+        name: "plan.read_back",
+        kinds: &[Num(16), Num(16), Num(16), Num(16), Num(16), Bytes],
+        classes: &[0, 13, 26],
+        own: |f| {
+            let mut out = field::bytes(f, D).to_vec();
+            let (number, steps) = streams::read_back(&device_at(f), &mut out);
+            written(number, steps, out)
+        },
+    },
+    Call {
+        name: "bench.checksum",
+        kinds: &[Bytes, Bytes, Bytes],
+        classes: &[0, 14, 15, 16],
+        own: |f| {
+            shown(
+                &bench::checksum(field::bytes(f, 0), field::bytes(f, 1)),
+                field::bytes(f, 2),
+            )
+        },
+    },
+    Call {
+        name: "bench.verify",
+        kinds: &[Bytes, Bytes, Bytes, Bytes],
+        classes: &[0, 14, 15, 16, 40, 41],
+        own: |f| {
+            let printed = bench::verify(field::bytes(f, 0), field::bytes(f, 1), field::bytes(f, 2));
+            shown(&printed, field::bytes(f, 3))
+        },
+    },
+    Call {
+        name: "bench.readback",
+        kinds: &[Bytes, Bytes, Bytes],
+        classes: &[0, 14, 15, 16],
+        own: |f| {
+            shown(
+                &bench::readback(field::bytes(f, 0), field::bytes(f, 1)),
+                field::bytes(f, 2),
+            )
+        },
+    },
+    Call {
+        name: "bench.update",
+        kinds: &[Bytes, Bytes, Bytes, Bytes],
+        classes: &[0, 1, 2, 3, 4, 5, 6, 7, 8, 9, 10, 11, 14, 15, 16, 22, 23, 24],
+        own: |f| {
+            let printed = bench::update(field::bytes(f, 0), field::bytes(f, 1), field::bytes(f, 2));
+            shown(&printed, field::bytes(f, 3))
+        },
+    },
+    Call {
+        name: "bench.fresh",
+        kinds: &[Bytes, Bytes, Bytes, Bytes],
+        classes: &[0, 1, 2, 3, 4, 5, 6, 7, 8, 9, 10, 11, 14, 15, 16, 22],
+        own: |f| {
+            let printed = bench::fresh(field::bytes(f, 0), field::bytes(f, 1), field::bytes(f, 2));
+            shown(&printed, field::bytes(f, 3))
+        },
+    },
+    Call {
+        name: "bench.trial",
+        kinds: &[Bytes, Bytes, Bytes, Bytes],
+        classes: &[0, 14, 15, 16, 30, 31, 33, 34],
+        own: |f| {
+            let printed = bench::trial(field::bytes(f, 0), field::bytes(f, 1), field::bytes(f, 2));
+            shown(&printed, field::bytes(f, 3))
+        },
+    },
+    Call {
+        name: "bench.dump",
+        kinds: &[Bytes, Bytes, Bytes],
+        classes: &[0, 14, 15, 16],
+        own: |f| {
+            shown(
+                &bench::dump(field::bytes(f, 0), field::bytes(f, 1)),
+                field::bytes(f, 2),
+            )
+        },
+    },
+];

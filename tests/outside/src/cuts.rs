@@ -1,0 +1,351 @@
+//! Pulling the plug: streams cut at every step, run again, cut again, and at last run whole.
+//!
+//! All runs and streams are the command's; each answer is held against our own too.
+
+use crate::ask::Peer;
+use crate::calls::{device_fields, Request};
+use crate::device::Device;
+use crate::field::{parse, Kind};
+use crate::gen::{device_of_size, image_for, lent, lent_words, reading_for};
+use crate::model::{BEGIN, BULK_ERASE, ROW_ERASE};
+use crate::rng::Rng;
+use crate::streams::{steps_bound, wanted_blank, wanted_over};
+use crate::tally::Tally;
+
+/// Streams that go through the waves together.
+const TOGETHER: usize = 24;
+/// The most program words of a device here.
+const WORDS_MOST: usize = 64;
+/// Random sets of changed bits, beside none and all.
+const SETS: usize = 3;
+
+/// A stream with the board that it is for.
+struct Plan {
+    device: Device,
+    request: Request,
+    /// The cells before the first run.
+    first: Vec<u16>,
+    /// The cells that the stream has to end in.
+    end: Vec<u16>,
+    /// Which cells the stream does not speak of.
+    kept: Vec<bool>,
+    stream: Vec<u8>,
+    /// The cells after each count of steps of an unbroken run.
+    after: Vec<Vec<u16>>,
+}
+
+/// A board that was cut at least once and waits for the next run.
+struct Torn {
+    plan: usize,
+    cells: Vec<u16>,
+    /// Further cuts that it has to bear.
+    more: usize,
+}
+
+/// Which cells an update leaves alone: rows, IDs and configuration words in which nothing differs, and what can't be written.
+fn kept_by_update(d: &Device, first: &[u16], end: &[u16]) -> Vec<bool> {
+    let (p, r) = (d.p(), d.r());
+    let same = |from: usize, to: usize| first[from..to] == end[from..to];
+    (0..d.cells())
+        .map(|i| match i {
+            _ if i < p => same(i - i % r, i - i % r + r),
+            _ if i < p + 4 => same(p, p + 4),
+            _ if i == p + 7 || i == p + 8 => same(i, i + 1),
+            _ => true,
+        })
+        .collect()
+}
+
+fn plan(rng: &mut Rng) -> Plan {
+    let device = loop {
+        let d = device_of_size(8, rng);
+        if d.p() <= WORDS_MOST && (d.p() <= 24 || rng.chance(40)) {
+            break d;
+        }
+    };
+    let d = &device;
+    let p = d.p();
+    let update = rng.chance(65);
+    // A fresh programming is for any target, protected or not.
+    let protected = !update && rng.chance(50);
+    let reading = reading_for(d, protected, rng);
+    let image = image_for(d, &reading, rng);
+    let mut first = reading.clone();
+    first.extend([rng.word(), rng.word()]);
+    let mut end = if update {
+        wanted_over(&image, &reading)
+    } else {
+        wanted_blank(&image)
+    };
+    end[p + 4..p + 7].copy_from_slice(&reading[p + 4..p + 7]);
+    end.extend_from_slice(&first[p + 9..]);
+    let kept = if update {
+        kept_by_update(d, &first, &end)
+    } else {
+        (0..d.cells())
+            .map(|i| i >= p + 9 || (p + 4..p + 7).contains(&i))
+            .collect()
+    };
+    let room = 3 * steps_bound(d);
+    let mut fields = device_fields(d);
+    fields.push(image.into());
+    fields.push(if update { reading.into() } else { d.id.into() });
+    fields.push(lent(room, rng).into());
+    let name = if update { "plan.update" } else { "plan.fresh" };
+    let request = Request::new(name, fields);
+    Plan {
+        device,
+        request,
+        first,
+        end,
+        kept,
+        stream: Vec::new(),
+        after: Vec::new(),
+    }
+}
+
+/// A run of the plan's stream from those cells.
+fn run(plan: &Plan, cells: &[u16], allowance: usize, rng: &mut Rng) -> Request {
+    let mut fields = device_fields(&plan.device);
+    fields.push(cells.to_vec().into());
+    fields.push(plan.stream.clone().into());
+    fields.push(allowance.into());
+    fields.push(lent_words(2, rng).into());
+    Request::new("target.run", fields)
+}
+
+/// Number, steps and cells of a run's answer; nothing where it is no such answer.
+fn run_answer(answer: Option<&[u8]>) -> Option<(u64, u64, Vec<u16>)> {
+    let parts: Vec<&[u8]> = answer?.split(|&c| c == b' ').collect();
+    let number = |i: usize| match parse(parts.get(i)?, Kind::Num(64))? {
+        crate::field::Field::Num(n) => Some(n),
+        _ => None,
+    };
+    let cells = match parse(parts.get(4)?, Kind::Words)? {
+        crate::field::Field::Words(w) => w,
+        _ => return None,
+    };
+    Some((number(1)?, number(2)?, cells))
+}
+
+/// The stream of a planner's answer.
+fn stream_answer(answer: Option<&[u8]>) -> Option<Vec<u8>> {
+    let parts: Vec<&[u8]> = answer?.split(|&c| c == b' ').collect();
+    if parts.get(1)? != b"0" {
+        return None;
+    }
+    let steps: usize = std::str::from_utf8(parts.get(2)?).ok()?.parse().ok()?;
+    match parse(parts.get(3)?, Kind::Bytes)? {
+        crate::field::Field::Bytes(b) => b.get(..3 * steps).map(<[u8]>::to_vec),
+        _ => None,
+    }
+}
+
+/// Asks runs; each answer is compared, must be sound, and its cells are handed back.
+fn runs(peer: &Peer, requests: &[Request], tally: &mut Tally) -> Vec<Option<(u64, Vec<u16>)>> {
+    let mut found = Vec::new();
+    let ended = peer.ask(requests, |r, answer| {
+        tally.compare(r, answer);
+        let run = run_answer(answer).filter(|(number, ..)| *number == 0);
+        found.push(run.map(|(_, steps, cells)| (steps, cells)));
+    });
+    tally.check(ended.is_ok(), || ended.unwrap_err());
+    found
+}
+
+/// Cells between two states: of the bits that differ, those that `choose` picks have changed.
+fn between(before: &[u16], after: &[u16], mut choose: impl FnMut() -> u16) -> Vec<u16> {
+    before
+        .iter()
+        .zip(after)
+        .map(|(&b, &a)| b ^ ((b ^ a) & choose()))
+        .collect()
+}
+
+/// The states that a cut at a step may leave: none, all, and some random sets of the changing bits.
+fn cut_states(before: &[u16], after: &[u16], rng: &mut Rng) -> Vec<Vec<u16>> {
+    if before == after {
+        return vec![before.to_vec()];
+    }
+    let mut states = vec![before.to_vec(), after.to_vec()];
+    for i in 0..SETS {
+        states.push(between(before, after, || match i {
+            0 => rng.u16(),
+            // Mostly changed, and mostly not.
+            1 => rng.u16() | rng.u16() | rng.u16(),
+            _ => rng.u16() & rng.u16() & rng.u16(),
+        }));
+    }
+    states
+}
+
+/// Whether every word that the stream does not speak of is the first state's.
+fn keeps(plan: &Plan, cells: &[u16]) -> bool {
+    cells.len() == plan.first.len()
+        && cells
+            .iter()
+            .zip(&plan.first)
+            .zip(&plan.kept)
+            .all(|((c, f), kept)| !kept || c == f)
+}
+
+/// A step for a later cut: mostly one that can change something.
+fn later_step(plan: &Plan, rng: &mut Rng) -> usize {
+    let steps = plan.stream.len() / 3;
+    let changing: Vec<usize> = (0..steps)
+        .filter(|k| [BEGIN, BULK_ERASE, ROW_ERASE].contains(&plan.stream[3 * k]))
+        .collect();
+    if changing.is_empty() || rng.chance(30) {
+        rng.below(steps)
+    } else {
+        rng.pick(&changing)
+    }
+}
+
+/// Streams planned and run unbroken with every allowance.
+fn unbroken(peer: &Peer, plans: &mut Vec<Plan>, rng: &mut Rng, tally: &mut Tally) {
+    let requests: Vec<Request> = plans.iter().map(|p| p.request.clone()).collect();
+    let mut streams = Vec::new();
+    let ended = peer.ask(&requests, |r, answer| {
+        tally.compare(r, answer);
+        streams.push(stream_answer(answer));
+    });
+    tally.check(ended.is_ok(), || ended.unwrap_err());
+    for (plan, stream) in plans.iter_mut().zip(&streams) {
+        plan.stream = stream.clone().unwrap_or_default();
+    }
+    // A plan that was refused is a difference already, and there is nothing to run.
+    plans.retain(|p| !p.stream.is_empty());
+    let mut requests = Vec::new();
+    for plan in plans.iter() {
+        for k in 0..=plan.stream.len() / 3 {
+            requests.push(run(plan, &plan.first, k, rng));
+        }
+    }
+    let mut answers = runs(peer, &requests, tally).into_iter();
+    for plan in plans.iter_mut() {
+        let steps = plan.stream.len() / 3;
+        let found: Option<Vec<_>> = answers.by_ref().take(steps + 1).collect();
+        let whole = found.filter(|f| (0..=steps).all(|k| f[k].0 == k as u64));
+        plan.after = whole
+            .map(|f| f.into_iter().map(|(_, c)| c).collect())
+            .unwrap_or_default();
+        let end = plan.after.last() == Some(&plan.end);
+        tally.check(end, || {
+            format!(
+                "an unbroken run does not end in what is wanted: {:?}",
+                plan.device
+            )
+        });
+    }
+    plans.retain(|p| !p.after.is_empty());
+}
+
+/// One more cut of each torn board that has to bear one.
+fn cut_again(
+    peer: &Peer,
+    plans: &[Plan],
+    torn: &mut [Torn],
+    rng: &mut Rng,
+    tally: &mut Tally,
+) -> usize {
+    let waiting: Vec<usize> = (0..torn.len()).filter(|&i| torn[i].more > 0).collect();
+    let mut requests = Vec::new();
+    for &i in &waiting {
+        let plan = &plans[torn[i].plan];
+        let step = later_step(plan, rng);
+        for allowance in [step, step + 1] {
+            requests.push(run(plan, &torn[i].cells, allowance, rng));
+        }
+    }
+    let answers = runs(peer, &requests, tally);
+    for (&i, pair) in waiting.iter().zip(answers.chunks(2)) {
+        torn[i].more -= 1;
+        if let [Some((_, before)), Some((_, after))] = pair {
+            let states = cut_states(before, after, rng);
+            torn[i].cells = states[rng.below(states.len())].clone();
+            let plan = &plans[torn[i].plan];
+            tally.check(keeps(plan, &torn[i].cells), || {
+                format!(
+                    "a cut run changed a word that it does not speak of: {:?}",
+                    plan.device
+                )
+            });
+        }
+    }
+    waiting.len()
+}
+
+/// The first cuts: each step of each stream, with several sets of bits.
+fn first_cuts(plans: &[Plan], rng: &mut Rng, tally: &mut Tally) -> Vec<Torn> {
+    let mut torn = Vec::new();
+    for (i, plan) in plans.iter().enumerate() {
+        for pair in plan.after.windows(2) {
+            for cells in cut_states(&pair[0], &pair[1], rng) {
+                tally.check(keeps(plan, &cells), || {
+                    format!(
+                        "a cut changed a word that the stream does not speak of: {:?}",
+                        plan.device
+                    )
+                });
+                torn.push(Torn {
+                    plan: i,
+                    cells,
+                    more: rng.below(3),
+                });
+            }
+        }
+    }
+    torn
+}
+
+/// The whole run at last: the cells of the unbroken one.
+fn whole_runs(peer: &Peer, plans: &[Plan], torn: &[Torn], rng: &mut Rng, tally: &mut Tally) {
+    let requests: Vec<Request> = torn
+        .iter()
+        .map(|t| {
+            run(
+                &plans[t.plan],
+                &t.cells,
+                plans[t.plan].stream.len() / 3,
+                rng,
+            )
+        })
+        .collect();
+    let answers = runs(peer, &requests, tally);
+    for (t, answer) in torn.iter().zip(&answers) {
+        let plan = &plans[t.plan];
+        let (steps, cells) = answer.clone().unwrap_or_default();
+        let good = steps as usize == plan.stream.len() / 3
+            && Some(&cells) == plan.after.last()
+            && keeps(plan, &cells);
+        tally.check(good, || {
+            format!("a run after a cut ends elsewhere: {:?}", plan.device)
+        });
+    }
+}
+
+/// At least so many cut runs, whole streams at a time.
+pub fn check(peer: &Peer, wanted: usize, rng: &mut Rng, tally: &mut Tally) {
+    let (mut cut_runs, mut cuts, mut streams, mut steps) = (0, 0, 0, 0);
+    // A command that answers nothing gives no runs to cut: its failures are counted, and that is the end.
+    let mut idle = 0;
+    while cut_runs < wanted && idle < 3 {
+        let mut plans: Vec<Plan> = (0..TOGETHER).map(|_| plan(rng)).collect();
+        unbroken(peer, &mut plans, rng, tally);
+        let mut torn = first_cuts(&plans, rng, tally);
+        cuts += torn.len();
+        for _ in 0..2 {
+            cuts += cut_again(peer, &plans, &mut torn, rng, tally);
+        }
+        whole_runs(peer, &plans, &torn, rng, tally);
+        cut_runs += torn.len();
+        streams += plans.len();
+        steps += plans.iter().map(|p| p.stream.len() / 3).sum::<usize>();
+        idle = if torn.is_empty() { idle + 1 } else { 0 };
+    }
+    println!("\n{cut_runs} cut runs with {cuts} cuts, at every one of {steps} steps of {streams} streams");
+    tally.check(cut_runs >= wanted, || {
+        format!("only {cut_runs} cut runs of {wanted}")
+    });
+}

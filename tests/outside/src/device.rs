@@ -1,0 +1,118 @@
+//! The device record and its rules (13), the device table (15, 16), images.
+
+use crate::words::{capital_word, decimal, NOT_GIVEN, WORD_MAX};
+use std::ops::Range;
+
+/// The most program words of a device.
+pub const PROGRAM_MAX: u16 = 8_192;
+/// The most lines of a table.
+pub const LINES_MAX: usize = 64;
+/// CP in configuration word 1: 0 means protected.
+pub const CP: u16 = 1 << 7;
+
+#[derive(Clone, Copy, Debug, PartialEq, Eq)]
+pub struct Device {
+    pub id: u16,
+    pub words: u16,
+    pub row: u16,
+    pub mask1: u16,
+    pub mask2: u16,
+}
+
+impl Device {
+    /// P, as a length.
+    pub fn p(&self) -> usize {
+        usize::from(self.words)
+    }
+
+    /// R, as a length.
+    pub fn r(&self) -> usize {
+        usize::from(self.row)
+    }
+
+    /// How long a reading and an image are.
+    pub fn entries(&self) -> usize {
+        self.p() + 9
+    }
+
+    /// How long the cells are.
+    pub fn cells(&self) -> usize {
+        self.p() + 11
+    }
+
+    pub fn lawful(&self) -> bool {
+        let ids = self.id <= WORD_MAX && self.mask1 <= WORD_MAX && self.mask2 <= WORD_MAX;
+        let row = matches!(self.row, 8 | 16 | 32);
+        ids && row
+            && self.mask1 & CP != 0
+            && self.words >= self.row
+            && self.words <= PROGRAM_MAX
+            && self.words.is_multiple_of(self.row)
+    }
+
+    /// Whether a list is a reading of this device.
+    pub fn is_reading(&self, list: &[u16]) -> bool {
+        list.len() == self.entries() && list.iter().all(|&w| w <= WORD_MAX)
+    }
+
+    /// Whether a reading, or cells, of this device is protected.
+    pub fn protected(&self, list: &[u16]) -> bool {
+        list[self.p() + 7] & CP == 0
+    }
+}
+
+/// A line of the table: the record, and where the name stands.
+pub struct Listed {
+    pub device: Device,
+    pub name: Range<usize>,
+}
+
+fn table_line(line: &[u8], at: usize) -> Option<Listed> {
+    let fields: Vec<&[u8]> = line.split(|&c| c == b'\t').collect();
+    let &[name, id, words, row, mask1, mask2] = fields.as_slice() else {
+        return None;
+    };
+    if name.is_empty() || name.len() > 16 || !name.iter().all(|c| (0x20..=0x7E).contains(c)) {
+        return None;
+    }
+    let device = Device {
+        id: capital_word(id)?,
+        words: decimal(words, u32::from(PROGRAM_MAX))? as u16,
+        row: decimal(row, 32)? as u16,
+        mask1: capital_word(mask1)?,
+        mask2: capital_word(mask2)?,
+    };
+    device.lawful().then_some(Listed {
+        device,
+        name: at..at + name.len(),
+    })
+}
+
+/// The lines of a table, or nothing where it is malformed.
+pub fn table(text: &[u8]) -> Option<Vec<Listed>> {
+    let mut listed: Vec<Listed> = Vec::new();
+    let mut at = 0;
+    while at < text.len() {
+        let length = text[at..].iter().position(|&c| c == b'\n')?;
+        let line = table_line(&text[at..at + length], at)?;
+        if listed.iter().any(|l| l.device.id == line.device.id) {
+            return None;
+        }
+        listed.push(line);
+        at += length + 1;
+    }
+    (1..=LINES_MAX).contains(&listed.len()).then_some(listed)
+}
+
+/// The table's line of an ID: 15, then 16.
+pub fn find(text: &[u8], id: u16) -> Result<Listed, u32> {
+    let listed = table(text).ok_or(15u32)?;
+    listed.into_iter().find(|l| l.device.id == id).ok_or(16)
+}
+
+/// Whether a list is an image with that many program words.
+pub fn is_image(words: usize, list: &[u16]) -> bool {
+    list.len() == words + 9
+        && list.iter().all(|&w| w <= WORD_MAX || w == NOT_GIVEN)
+        && list[words + 4..words + 7].iter().all(|&w| w == NOT_GIVEN)
+}

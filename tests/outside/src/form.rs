@@ -1,0 +1,200 @@
+//! Requests that are malformed, or only just well formed: the form itself, asked as raw lines.
+
+use crate::ask::Peer;
+use crate::tally::{cut, Tally};
+
+const TINY: &str = "10752 16 8 16127 16371";
+
+/// Sound lines with their answers: small digits, and the largest sizes.
+fn sound() -> Vec<(Vec<u8>, Vec<u8>)> {
+    let pair = |a: &str, b: &str| (a.as_bytes().to_vec(), b.as_bytes().to_vec());
+    let mut lines = vec![
+        pair("words.double 32775", "words.double 65550"),
+        pair("words.double 0", "words.double 0"),
+        pair("words.halve 18446744073709551615", "words.halve 0 0"),
+        pair("words.put 0aFf 1 171", "words.put 0AAB"),
+        pair("words.put - 0 171", "words.put -"),
+        pair("words.is_words 3fFf3FfF 2", "words.is_words 1"),
+        pair("device.is_image 65535 -", "device.is_image 0"),
+        pair(&format!("judge.checksum {TINY} -"), "judge.checksum 21 0"),
+    ];
+    // As many bytes and words as a field may have.
+    let bytes = "A7".repeat(262_144);
+    lines.push(pair(
+        &format!("words.put {bytes} 262144 0"),
+        &format!("words.put {bytes}"),
+    ));
+    let words = "3FFF".repeat(65_536);
+    lines.push(pair(
+        &format!("words.is_words {words} 65536"),
+        "words.is_words 1",
+    ));
+    // A line of exactly the longest length: name, four blanks, `-`, LF and digits.
+    let digits = 1_048_576 - 12 - 4 - 1 - 1;
+    let (a, b) = ("5A".repeat(262_144), "C3".repeat(200_000));
+    let c = "11".repeat(digits / 2 - 262_144 - 200_000);
+    let text = "refused\t15\t0\n";
+    let mut out = c.clone();
+    let shown: String = text.bytes().map(|x| format!("{x:02X}")).collect();
+    let room = out.len().min(shown.len());
+    out.replace_range(..room, &shown[..room]);
+    lines.push(pair(
+        &format!("bench.verify - {a} {b} {c}"),
+        &format!("bench.verify {} {out}", text.len()),
+    ));
+    lines
+}
+
+fn malformed() -> Vec<Vec<u8>> {
+    let latches = "3FFF".repeat(32);
+    let cells = "3FFF".repeat(27);
+    let mut lines: Vec<String> = [
+        "",
+        " ",
+        "words",
+        "words.",
+        "words.doubles 1",
+        "Words.double 1",
+        "words.double",
+        "words.double ",
+        "words.double 1 ",
+        " words.double 1",
+        "words.double  1",
+        "words.double 1 1",
+        "words.double 01",
+        "words.double 00",
+        "words.double +1",
+        "words.double -1",
+        "words.double -",
+        "words.double 1.",
+        "words.double 0x1",
+        "words.double A",
+        "words.double 65536",
+        "words.double 1\r",
+        "words.double\t1",
+        "words.double 18446744073709551616",
+        "words.double 99999999999999999999999",
+        "words.halve 18446744073709551616",
+        "words.halve 018446744073709551615",
+        "words.digit 256",
+        "words.entry_of 65536 1 1 1",
+        "words.entry_of 1 65536 1 1",
+        "words.entry_of 1 1 256 1",
+        "words.entry_of 1 1 1 65536",
+        "words.address_of 1 1 1",
+        "words.put 0 0 0",
+        "words.put 00 0 256",
+        "words.put 000 0 0",
+        "words.put 0G 0 0",
+        "words.put -- 0 0",
+        "words.put -00 0 0",
+        "words.put  0 0",
+        "words.put_word 00 0 65536",
+        "words.decimal 30 4294967296",
+        "words.is_words 3FF 1",
+        "words.is_words 3FFF00 1",
+        "words.is_words 3FFF,3FFF 2",
+        "device.judge 1 2 3 4",
+        "device.judge 1 2 3 4 5 6",
+        "device.judge 65536 16 8 16127 16371",
+        "device.find_device - 65536",
+        "judge.checksum 10752 16 8 16127 16371",
+        "judge.checksum 10752 16 8 16127 -",
+        "answer",
+        "quit",
+        "bench.dump - -",
+        "bench.dump - - - -",
+        "words.double \u{663}",
+    ]
+    .map(String::from)
+    .to_vec();
+    for other in ["3FFF".repeat(31), "3FFF".repeat(33), "-".to_string()] {
+        lines.push(format!("target.step {TINY} 0 {other} 6 0 - {cells}"));
+    }
+    for (counter, code, payload) in [("65536", "6", "0"), ("0", "256", "0"), ("0", "6", "65536")] {
+        lines.push(format!(
+            "target.step {TINY} {counter} {latches} {code} {payload} - {cells}"
+        ));
+    }
+    lines.push(format!("words.put {} 0 0", "00".repeat(262_145)));
+    lines.push(format!("words.is_words {} 0", "0000".repeat(65_537)));
+    // One byte more than the longest line, every field of it lawful.
+    let digits = 1_048_577 - 12 - 4 - 1;
+    let parts = [
+        "5A".repeat(200_000),
+        "A5".repeat(100_000),
+        "77".repeat(100_000),
+    ];
+    let last = "11".repeat(digits / 2 - 400_000);
+    lines.push(format!(
+        "bench.verify {} {} {} {last}",
+        parts[0], parts[1], parts[2]
+    ));
+    let mut raw: Vec<Vec<u8>> = lines.into_iter().map(String::into_bytes).collect();
+    raw.push(b"words.double 1\0".to_vec());
+    raw.push(b"words.double \xFF".to_vec());
+    raw.push(b"\xFF\xFE".to_vec());
+    raw
+}
+
+/// The message of a malformed line 2, at the beginning of a line of its own.
+fn told(messages: &[u8]) -> bool {
+    messages
+        .split(|&c| c == b'\n')
+        .any(|m| m.starts_with(b"answer: line 2: "))
+}
+
+/// Each malformed line stands between two sound ones: the first is answered, and nothing after it.
+pub fn check(peer: &Peer, tally: &mut Tally) {
+    let mut input = Vec::new();
+    let mut expected = Vec::new();
+    for (line, answer) in sound() {
+        input.extend([line.as_slice(), b"\n"].concat());
+        expected.extend([answer.as_slice(), b"\n"].concat());
+    }
+    match peer.talk(&input) {
+        Err(why) => tally.check(false, || why),
+        Ok(talk) => tally.check(talk.output == expected && talk.messages.is_empty(), || {
+            let parts = talk
+                .output
+                .iter()
+                .zip(&expected)
+                .position(|(a, b)| a != b)
+                .unwrap_or(0);
+            format!(
+                "sound lines\n    own {}\n    got {}\n    told {}",
+                cut(&expected, parts),
+                cut(&talk.output, parts),
+                cut(&talk.messages, 0)
+            )
+        }),
+    }
+    let mut inputs: Vec<Vec<u8>> = malformed()
+        .into_iter()
+        .map(|bad| [b"words.double 1\n".as_slice(), &bad, b"\nwords.double 2\n"].concat())
+        .collect();
+    inputs.push(b"words.double 1\nwords.double 2".to_vec());
+    inputs.push(b"words.double 1\nwords.doub".to_vec());
+    for input in inputs {
+        match peer.talk(&input) {
+            Err(why) => tally.check(false, || why),
+            Ok(talk) => {
+                let good = talk.output == b"words.double 2\n" && told(&talk.messages);
+                tally.check(good, || {
+                    format!(
+                        "a malformed request\n    input {}\n    got {}\n    told {}",
+                        cut(&input, 0),
+                        cut(&talk.output, 0),
+                        cut(&talk.messages, 0)
+                    )
+                });
+            }
+        }
+    }
+    match peer.talk(b"") {
+        Err(why) => tally.check(false, || why),
+        Ok(talk) => tally.check(talk.output.is_empty() && talk.messages.is_empty(), || {
+            "the empty input has an answer".to_string()
+        }),
+    }
+}

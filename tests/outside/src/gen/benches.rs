@@ -1,0 +1,221 @@
+//! Inputs for what the programs print.
+
+use super::boards::{
+    also, any_device, bad_first_line, bad_sheet, bad_table, image_for, reading_for, table_with,
+    table_without,
+};
+use super::plans::{bad_step, put_in, sound_stream, want_a_bit};
+use super::{hexes, lent, room};
+use crate::bench as own;
+use crate::device::{Device, CP};
+use crate::field::Field;
+use crate::hex::PROGRAM_TEXT_MAX;
+use crate::model::{INCREMENT, READ, RESET};
+use crate::rng::Rng;
+use crate::sheet;
+
+pub fn bench(name: &str, aim: u32, rng: &mut Rng) -> Vec<Field> {
+    let d = any_device(rng);
+    let protected = match (name, aim) {
+        ("update", 0 | 24) => false,
+        ("update", 23) | (_, 41) => true,
+        ("verify", 0) => false,
+        _ => rng.chance(30),
+    };
+    let mut reading = reading_for(&d, protected, rng);
+    // The third file is made with the reading still sound, and may change it to suit.
+    let third = match name {
+        "update" | "fresh" => Some(hex_file(&d, &mut reading, aim, rng)),
+        "verify" => Some(wanted_file(&d, &reading, aim, rng)),
+        "trial" => Some(stream_file(&d, aim, rng)),
+        _ => None,
+    };
+    if aim == 22
+        || (aim != 0 && aim < 12 && rng.chance(20))
+        || (name == "update" && also(aim, &[14, 15, 16], rng))
+    {
+        reading[d.p() + 6] ^= 1 << rng.below(14);
+    }
+    let (table, board) = first_files(&d, &sheet::text(&d, &reading), aim, name == "readback", rng);
+    let mut fields: Vec<Field> = vec![table.clone().into(), board.clone().into()];
+    let file = third.clone().unwrap_or_default();
+    let printed = match name {
+        "checksum" => own::checksum(&table, &board),
+        "verify" => own::verify(&table, &board, &file),
+        "readback" => own::readback(&table, &board),
+        "update" => own::update(&table, &board, &file),
+        "fresh" => own::fresh(&table, &board, &file),
+        "trial" => own::trial(&table, &board, &file),
+        _ => own::dump(&table, &board),
+    };
+    let short = rng.chance(25);
+    let length = room(printed.text.len(), short, rng);
+    fields.extend(third.map(Field::from));
+    fields.push(lent(length, rng).into());
+    fields
+}
+
+/// Table and sheet, with 14, 15 or 16 in them where that is aimed at.
+fn first_files(
+    d: &Device,
+    text: &[u8],
+    aim: u32,
+    line_alone: bool,
+    rng: &mut Rng,
+) -> (Vec<u8>, Vec<u8>) {
+    let known = table_with(d, rng);
+    match aim {
+        15 => {
+            let board = if rng.chance(30) {
+                bad_first_line(text, rng)
+            } else {
+                text.to_vec()
+            };
+            (bad_table(d, rng), board)
+        }
+        16 => {
+            let board = if rng.chance(40) {
+                bad_sheet(d, text, rng)
+            } else {
+                text.to_vec()
+            };
+            (table_without(d, rng), board)
+        }
+        14 if line_alone || rng.chance(40) => {
+            let table = if rng.chance(30) {
+                table_without(d, rng)
+            } else {
+                known
+            };
+            (table, bad_first_line(text, rng))
+        }
+        14 => (known, bad_sheet(d, text, rng)),
+        // What follows line 1 is nothing to a program that reads line 1 alone.
+        _ if line_alone && rng.chance(40) => (known, bad_sheet(d, text, rng)),
+        _ => (known, text.to_vec()),
+    }
+}
+
+fn hex_file(d: &Device, reading: &mut [u16], aim: u32, rng: &mut Rng) -> Vec<u8> {
+    let mut image = image_for(d, reading, rng);
+    if aim == 24 || also(aim, &[22, 23, 14, 16], rng) {
+        want_a_bit(d, &mut image, reading, rng);
+        // So that nothing but the bit refuses.
+        if aim == 24 {
+            reading[d.p() + 7] |= CP;
+        }
+    }
+    let lines = match aim {
+        1..=11 => aim,
+        14..=16 if rng.chance(30) => rng.pick(&[2, 3, 10]),
+        _ => 0,
+    };
+    hexes::text(d, &image, lines, PROGRAM_TEXT_MAX, rng)
+}
+
+fn wanted_file(d: &Device, reading: &[u16], aim: u32, rng: &mut Rng) -> Vec<u8> {
+    let p = d.p();
+    let mut wanted = reading.to_vec();
+    if d.protected(reading) && rng.chance(50) {
+        let i = rng.below(p);
+        wanted[i] = rng.word();
+    }
+    wanted[p + rng.between(4, 6)] = rng.word();
+    if aim == 40 {
+        for _ in 0..rng.pick(&[1, 1, 3, 30]) {
+            let judged = if d.protected(reading) { p } else { 0 };
+            let at = if rng.chance(40) {
+                p + rng.pick(&[0, 1, 2, 3, 7, 8])
+            } else {
+                rng.below(p).max(judged)
+            };
+            wanted[at] ^= 1 << rng.below(14);
+        }
+    }
+    let text = sheet::text(d, &wanted);
+    if aim == 14 && rng.chance(50) {
+        match rng.below(4) {
+            0 => bad_first_line(&text, rng),
+            1 => sheet::text(
+                &Device {
+                    id: d.id ^ 1 << rng.below(14),
+                    ..*d
+                },
+                &wanted,
+            ),
+            _ => bad_sheet(d, &text, rng),
+        }
+    } else {
+        text
+    }
+}
+
+/// A printed stream's line that is not two and four capital hex digits.
+fn bad_line(line: &[u8], rng: &mut Rng) -> Vec<u8> {
+    let mut bad = line.to_vec();
+    match rng.below(9) {
+        0 => bad.clear(),
+        1 => bad[2] = b' ',
+        2 => {
+            let at = rng.pick(&[0, 1, 3, 4, 5, 6]);
+            bad[at] = rng.pick(b"abcdef/:@G`g \t\r");
+        }
+        3 => bad.push(rng.pick(b"\r 0\t")),
+        4 => {
+            bad.pop();
+        }
+        5 => bad.insert(0, rng.pick(b"0 \t")),
+        6 => {
+            bad.remove(2);
+        }
+        7 => bad.insert(2, b'\t'),
+        _ => bad.truncate(rng.below(7)),
+    }
+    bad
+}
+
+fn stream_file(d: &Device, aim: u32, rng: &mut Rng) -> Vec<u8> {
+    let mut stream = sound_stream(d, rng);
+    // The trial's most lines; more of them do not fit a request.
+    if rng.chance(1) && aim == 0 {
+        stream.splice(0..0, [RESET, 0, 0]);
+        // Reads too: each of them takes room somewhere.
+        let filler = rng.pick(&[INCREMENT, READ]);
+        while stream.len() < 3 * own::TRIAL_LINES {
+            stream.extend([filler, 0, 0]);
+        }
+    }
+    // Room for the bad lines that are put in below.
+    let most = if aim == 0 {
+        own::TRIAL_LINES
+    } else {
+        own::TRIAL_LINES - 40
+    };
+    stream.truncate(3 * most);
+    if matches!(aim, 30 | 31 | 33) || also(aim, &[14, 15, 16, 34], rng) {
+        let number = if (30..34).contains(&aim) {
+            aim
+        } else {
+            rng.pick(&[30, 31, 33])
+        };
+        let steps = bad_step(number, rng);
+        put_in(&mut stream, &steps, rng);
+    }
+    let text = own::stream_text(&stream);
+    let mut lines: Vec<Vec<u8>> = text.chunks(8).map(|l| l[..7].to_vec()).collect();
+    if aim == 34 || also(aim, &[14, 15, 16], rng) {
+        let at = rng.below(lines.len() + 1);
+        let bad = bad_line(b"06\t0000", rng);
+        lines.insert(at, bad);
+        if rng.chance(20) {
+            let bad = bad_line(b"02\t3FFE", rng);
+            lines.push(bad);
+        }
+    }
+    let mut out = lines.join(&b'\n');
+    // The last line may stand without its LF.
+    if !lines.is_empty() && (rng.chance(85) || aim == 34) {
+        out.push(b'\n');
+    }
+    out
+}

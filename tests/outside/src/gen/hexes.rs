@@ -1,0 +1,352 @@
+//! Inputs for the HEX reader and writer.
+
+use super::boards::{also, any_device, image_for, reading_for, record, spoil_image};
+use super::{lent, lent_words, room};
+use crate::device::Device;
+use crate::field::Field;
+use crate::hex as own;
+use crate::rng::Rng;
+use crate::words::NOT_GIVEN;
+
+/// A line's text without its end.
+type Line = Vec<u8>;
+
+/// A record's line; digits of either case now and then.
+fn record_line(address: u16, kind: u8, data: &[u8], rng: &mut Rng) -> Line {
+    let mut line = own::record_text(address, kind, data);
+    line.pop();
+    if rng.chance(20) {
+        for c in &mut line {
+            if rng.chance(50) {
+                c.make_ascii_lowercase();
+            }
+        }
+    }
+    line
+}
+
+fn data_of(words: &[u16]) -> Vec<u8> {
+    words.iter().flat_map(|w| w.to_le_bytes()).collect()
+}
+
+/// The lines for words from a word address on: the upper half where it is not the one in force, then the data.
+fn placed(word: u32, words: &[u16], upper: &mut Option<u16>, rng: &mut Rng) -> Vec<Line> {
+    let byte = 2 * u64::from(word);
+    let half = (byte >> 16) as u16;
+    let mut lines = Vec::new();
+    if *upper != Some(half) || rng.chance(3) {
+        lines.push(record_line(0, 4, &half.to_be_bytes(), rng));
+        *upper = Some(half);
+    }
+    lines.push(record_line(byte as u16, 0, &data_of(words), rng));
+    lines
+}
+
+/// The data lines of an image, in pieces of any length and mostly in order.
+fn image_lines(d: &Device, image: &[u16], rng: &mut Rng) -> Vec<Line> {
+    let p = d.p();
+    let address = |i: usize| if i < p { i } else { 0x8000 + i - p } as u32;
+    let most = rng.pick(&[1, 4, 8, 8, 127]);
+    let mut pieces: Vec<(u32, Vec<u16>)> = Vec::new();
+    for i in (0..image.len()).filter(|&i| image[i] != NOT_GIVEN) {
+        match pieces.last_mut() {
+            Some((first, words))
+                if *first + words.len() as u32 == address(i)
+                    && words.len() < most
+                    && rng.chance(95) =>
+            {
+                words.push(image[i]);
+            }
+            _ => pieces.push((address(i), vec![image[i]])),
+        }
+    }
+    if rng.chance(30) {
+        for i in 1..pieces.len() {
+            pieces.swap(i, rng.below(i + 1));
+        }
+    }
+    let mut upper = Some(0);
+    let mut lines = Vec::new();
+    for (first, words) in pieces {
+        lines.extend(placed(first, &words, &mut upper, rng));
+        if rng.chance(2) {
+            // Data of no length gives nothing, wherever it stands.
+            let nowhere = rng.u16() & 0xFFFE;
+            lines.push(record_line(nowhere, 0, &[], rng));
+        }
+    }
+    lines
+}
+
+/// A line that is not a record.
+fn no_record(rng: &mut Rng) -> Line {
+    let length = 2 * rng.below(5);
+    let data = rng.bytes(length);
+    let (address, kind) = (rng.u16(), rng.pick(&[0, 0, 1, 4, 2]));
+    let mut line = record_line(address, kind, &data, rng);
+    match rng.below(12) {
+        0 => {
+            line.remove(0);
+        }
+        1 => line[0] = rng.pick(b";.0 :\t"),
+        2 => line.insert(0, rng.pick(b" 0:\t")),
+        3..=5 => {
+            let at = rng.between(1, line.len() - 1);
+            line[at] = rng.pick(b"/:@G`g \t\x00\xFF\r");
+        }
+        6 => line.push(rng.pick(b"0F \r")),
+        7 => line.extend(b"00"),
+        8 => {
+            line.pop();
+        }
+        9 => line.truncate(line.len() - 2),
+        10 => line.truncate(rng.between(1, 10)),
+        _ => {
+            let length = [b"00".as_slice(), b"01", b"FF", b"10", b"7F"];
+            line.splice(1..3, rng.pick(&length).iter().copied());
+        }
+    }
+    if line == b":" || own_kind(&line) != Some(2) {
+        b":".to_vec()
+    } else {
+        line
+    }
+}
+
+/// What our own reader says of one line by itself.
+fn own_kind(line: &[u8]) -> Option<u32> {
+    let d = Device {
+        id: 0,
+        words: 8,
+        row: 8,
+        mask1: 0x80,
+        mask2: 0,
+    };
+    own::image(&d, line, own::TEXT_MAX)
+        .err()
+        .map(|(number, _)| number)
+}
+
+/// A word address that no file may give, and how many lawful words stand just before it.
+fn nowhere(d: &Device, rng: &mut Rng) -> (u32, u32) {
+    let p = u32::from(d.words);
+    match rng.below(10) {
+        0 => (p, p.min(3)),
+        1 => (0x8004, 4),
+        2 => (0x8009, 2),
+        3 => (0x8005, 0),
+        4 => (0x8006, 0),
+        5 => (0x800A + rng.below(4) as u32, 0),
+        // The same addresses again 64 Ki words on, as one would see that keeps 16 bits of them.
+        6 => (
+            0x1_0000 * rng.between(1, 0x7FFF) as u32 + rng.below(d.p()) as u32,
+            0,
+        ),
+        7 => (0x1_8000 + rng.pick(&[0, 3, 7, 8]), 0),
+        8 => (0x7FFF_FFFF - rng.below(8) as u32, 0),
+        _ => (rng.between(d.p(), 0x7FFF) as u32, 0),
+    }
+}
+
+/// A word address that a file may give.
+fn somewhere(d: &Device, rng: &mut Rng) -> u32 {
+    if rng.chance(30) {
+        0x8000 + rng.pick(&[0, 1, 2, 3, 7, 8])
+    } else {
+        rng.below(d.p()) as u32
+    }
+}
+
+/// Lines of which the last should be refused with the number; some of the later refusals are in it as well.
+fn bad_lines(d: &Device, number: u32, rng: &mut Rng) -> Vec<Line> {
+    let bytes = |most: usize, rng: &mut Rng| {
+        let n = rng.below(most + 1);
+        rng.bytes(n)
+    };
+    let mut no_upper = None;
+    match number {
+        2 => vec![no_record(rng)],
+        3 => {
+            let data = bytes(6, rng);
+            let (address, kind) = (rng.u16(), rng.pick(&[0, 0, 1, 4, 2, 255]));
+            let line = own::record_text(address, kind, &data);
+            let sum = crate::words::spelled(&line, line.len() as u64 - 3, 2, crate::words::digit);
+            let sum = (sum.expect("a sum") as u8).wrapping_add(rng.between(1, 255) as u8);
+            vec![[&line[..line.len() - 3], format!("{sum:02X}").as_bytes()].concat()]
+        }
+        4 => {
+            let kind = if rng.chance(70) {
+                rng.pick(&[2, 3, 5])
+            } else {
+                rng.between(5, 255) as u8
+            };
+            let data = bytes(5, rng);
+            vec![record_line(rng.u16(), kind, &data, rng)]
+        }
+        5 => {
+            let kind = rng.pick(&[1, 4]);
+            let usual: usize = if kind == 1 { 0 } else { 2 };
+            let (address, length) = match rng.below(3) {
+                0 => (rng.between(1, 0xFFFF) as u16, usual),
+                1 => (0, rng.pick(&[1, 3, 4, 255])),
+                _ => (rng.pick(&[1, 0x100, 0x8000]), 2 - usual),
+            };
+            let data = rng.bytes(length);
+            vec![record_line(address, kind, &data, rng)]
+        }
+        6 => {
+            let mut address = rng.u16();
+            let mut data = bytes(7, rng);
+            if rng.chance(50) {
+                address |= 1;
+            } else if data.len() % 2 == 0 {
+                data.push(0);
+            }
+            vec![record_line(address, 0, &data, rng)]
+        }
+        7 => {
+            let (bad, before) = nowhere(d, rng);
+            let back = rng.below(before as usize + 1) as u32;
+            let after = rng.between(1, 3) as u32;
+            // From the bad word on any value will do: it is not looked at.
+            let words: Vec<u16> = (0..back + after)
+                .map(|k| if k < back { rng.word() } else { rng.u16() })
+                .collect();
+            placed(bad - back, &words, &mut no_upper, rng)
+        }
+        8 => {
+            let at = somewhere(d, rng);
+            let above = rng.pick(&[0x4000, 0x4001, 0x8000, 0xFFFE, 0xFFFF]);
+            let mut words = vec![above];
+            for _ in 0..rng.below(3) {
+                words.push(rng.u16());
+            }
+            if rng.chance(50) && at > 0 && (at < 0x8000 || at == 0x8001 || at == 0x8008) {
+                words.insert(0, rng.word());
+                return placed(at - 1, &words, &mut no_upper, rng);
+            }
+            placed(at, &words, &mut no_upper, rng)
+        }
+        _ => {
+            // 9: the same word twice, of whatever values.
+            let at = somewhere(d, rng);
+            let mut lines = placed(at, &[rng.word()], &mut no_upper, rng);
+            let second = placed(at, &[rng.word(), rng.u16()], &mut no_upper, rng);
+            if rng.chance(50) {
+                lines.push(Vec::new());
+            }
+            lines.extend(second);
+            lines
+        }
+    }
+}
+
+/// Lines put together with ends of either kind, empty lines among them.
+fn join(lines: &[Line], rng: &mut Rng) -> Vec<u8> {
+    let carriage = rng.pick(&[0, 0, 100, 50]);
+    let empty = rng.pick(&[0, 0, 10]);
+    let mut text = Vec::new();
+    for (i, line) in lines.iter().enumerate() {
+        while rng.chance(empty) {
+            text.extend(rng.pick(&[b"\n".as_slice(), b"\r\n"]));
+        }
+        text.extend(line);
+        if rng.chance(carriage) {
+            text.push(b'\r');
+        }
+        if i + 1 < lines.len() || rng.chance(80) {
+            text.push(b'\n');
+        }
+    }
+    text
+}
+
+/// Empty lines at the text's front, or behind, up to a whole length.
+fn pad(text: Vec<u8>, length: usize, rng: &mut Rng) -> Vec<u8> {
+    let filler = vec![b'\n'; length.saturating_sub(text.len())];
+    if rng.chance(50) || !text.ends_with(b"\n") {
+        [filler, text].concat()
+    } else {
+        [text, filler].concat()
+    }
+}
+
+/// A text that the reader should answer with the number; `most` is the longest it may have.
+pub fn text(d: &Device, image: &[u16], aim: u32, most: usize, rng: &mut Rng) -> Vec<u8> {
+    let mut lines = image_lines(d, image, rng);
+    if (2..=9).contains(&aim) {
+        let at = rng.below(lines.len() + 1);
+        let bad = bad_lines(d, aim, rng);
+        lines.splice(at..at, bad);
+        if rng.chance(30) {
+            // A second fault behind the first.
+            let number = rng.between(2, 9) as u32;
+            lines.extend(bad_lines(d, number, rng));
+        }
+    }
+    if aim != 10 {
+        lines.push(record_line(0, 1, &[], rng));
+    }
+    if aim == 11 {
+        for _ in 0..rng.below(3) {
+            lines.push(Vec::new());
+        }
+        let number = rng.between(2, 9) as u32;
+        match rng.below(4) {
+            0 => lines.push(record_line(0, 1, &[], rng)),
+            1 => lines.push(
+                rng.pick(&[b" ".as_slice(), b":", b"\r", b"\0", b"x", b"\t"])
+                    .to_vec(),
+            ),
+            2 => lines.extend(bad_lines(d, number, rng)),
+            _ => lines.push(record_line(0, 0, &[], rng)),
+        }
+        if lines.last().is_some_and(|l| l == b"\r") {
+            // Two of them before the line's end: the first is a character of the line.
+            lines.push(b"\r\r".to_vec());
+        }
+    }
+    let text = join(&lines, rng);
+    match rng.below(300) {
+        _ if aim == 1 && rng.chance(70) => pad(text, most + 1, rng),
+        _ if aim == 1 => {
+            let length = most + rng.between(1, 600);
+            pad(text, length, rng)
+        }
+        0 => pad(text, most, rng),
+        1 => pad(text, most - 1, rng),
+        2 => {
+            let length = rng.between(1, most);
+            pad(text, length, rng)
+        }
+        _ => text,
+    }
+}
+
+pub fn ihex(name: &str, aim: u32, rng: &mut Rng) -> Vec<Field> {
+    let d = any_device(rng);
+    let reading = reading_for(&d, rng.chance(30), rng);
+    let mut image = image_for(&d, &reading, rng);
+    let mut fields = record(&d, aim, rng);
+    if name == "read_hex" {
+        let text_aim = match aim {
+            12 | 13 => rng.pick(&[0, 0, 2, 10]),
+            _ => aim,
+        };
+        let text = text(&d, &image, text_aim, own::TEXT_MAX, rng);
+        let mut length = d.entries();
+        if aim == 12 || also(aim, &[13], rng) {
+            length = rng.pick(&[0, 9, length - 1, length + 1, length + 2, d.p()]);
+        }
+        fields.extend([text.into(), lent_words(length, rng).into()]);
+        return fields;
+    }
+    let needed = own::text(&d, &image).len();
+    let short = aim == 26 || also(aim, &[13, 20], rng);
+    let length = room(needed, short, rng);
+    if aim == 20 || also(aim, &[13], rng) {
+        spoil_image(&d, &mut image, rng);
+    }
+    fields.extend([image.into(), lent(length, rng).into()]);
+    fields
+}

@@ -1,0 +1,362 @@
+//! Inputs for the model and for the planners.
+
+use super::boards::{
+    also, any_device, device_of_size, image_for, reading_for, record, spoil_image, spoil_words,
+};
+use super::{lent, lent_words, number, room};
+use crate::device::{Device, CP};
+use crate::field::Field;
+use crate::model::{
+    BEGIN, BULK_ERASE, INCREMENT, LOAD_CONFIGURATION, LOAD_DATA, READ, RESET, ROW_ERASE,
+};
+use crate::rng::Rng;
+use crate::streams as own;
+use crate::words::WORD_MAX;
+
+const CODES: [u8; 8] = [
+    LOAD_CONFIGURATION,
+    LOAD_DATA,
+    READ,
+    INCREMENT,
+    BEGIN,
+    BULK_ERASE,
+    ROW_ERASE,
+    RESET,
+];
+
+/// A code that the paper's table has not: the maker's others among them, and known ones with high bits.
+fn unknown_code(rng: &mut Rng) -> u8 {
+    loop {
+        let code = match rng.below(3) {
+            0 => rng.pick(&[
+                0x18, 0x0A, 0x01, 0x03, 0x05, 0x07, 0x10, 0x12, 0x14, 0x17, 0x19,
+            ]),
+            1 => rng.pick(&CODES) | rng.pick(&[0x20, 0x40, 0x80]),
+            _ => rng.byte(),
+        };
+        if !CODES.contains(&code) {
+            return code;
+        }
+    }
+}
+
+fn good_payload(code: u8, rng: &mut Rng) -> u16 {
+    match code {
+        LOAD_CONFIGURATION | LOAD_DATA if rng.chance(20) => 2 * WORD_MAX,
+        LOAD_CONFIGURATION | LOAD_DATA => 2 * rng.word(),
+        _ => 0,
+    }
+}
+
+fn bad_payload(code: u8, rng: &mut Rng) -> u16 {
+    match code {
+        LOAD_CONFIGURATION | LOAD_DATA => match rng.below(3) {
+            0 => good_payload(code, rng) | 1,
+            1 => 0x8000 | rng.u16(),
+            _ => rng.pick(&[0x7FFF, 0x8000, 0xFFFF, 0xFFFE, 1]),
+        },
+        _ => rng.pick(&[1, 2, 0x100, 0x7FFE, 0x8000, 0xFFFF]),
+    }
+}
+
+/// A counter near a place where something begins or ends.
+fn counter(d: &Device, rng: &mut Rng) -> u16 {
+    match rng.below(8) {
+        0..=2 => rng.below(d.p()) as u16,
+        3 => d.words + rng.below(2 * d.r()) as u16,
+        4 | 5 => 0x8000 + rng.below(12) as u16,
+        6 => rng.pick(&[0x7FFE, 0x7FFF, 0xFFFE, 0xFFFF, 0x8000, 0]),
+        _ => rng.u16(),
+    }
+}
+
+/// Cells of the device.
+fn cells(d: &Device, rng: &mut Rng) -> Vec<u16> {
+    let mut cells = reading_for(d, rng.chance(30), rng);
+    cells.extend([rng.word(), rng.word()]);
+    cells
+}
+
+fn step(aim: u32, rng: &mut Rng) -> Vec<Field> {
+    let d = any_device(rng);
+    let mut cells = cells(&d, rng);
+    // The latches past R are carried and never looked at.
+    let mut latches: Vec<u16> = (0..32)
+        .map(|k| if k < d.r() { rng.word() } else { rng.u16() })
+        .collect();
+    let mut code = rng.pick(&CODES);
+    let mut at = counter(&d, rng);
+    match aim {
+        30 => code = unknown_code(rng),
+        33 => code = BULK_ERASE,
+        35 => code = READ,
+        // Of what a code alone can do wrong, something stands under a bad payload.
+        31 if rng.chance(40) => code = rng.pick(&[BULK_ERASE, READ]),
+        _ => {}
+    }
+    if aim == 33 || (aim == 31 && rng.chance(40)) {
+        let far = rng.between(0x8009, 0xFFFF) as u16;
+        at = rng.pick(&[0x8009, 0x800A, 0x800B, 0xFFFF, far]);
+    } else if code == BULK_ERASE && aim == 0 {
+        at = if rng.chance(50) {
+            at & 0x7FFF
+        } else {
+            0x8000 + rng.below(9) as u16
+        };
+    }
+    if code == INCREMENT && rng.chance(30) {
+        at = rng.pick(&[0x7FFE, 0x7FFF, 0x8000, 0xFFFE, 0xFFFF]);
+    }
+    let payload = if aim == 31 || also(aim, &[13, 32, 30], rng) {
+        bad_payload(code, rng)
+    } else {
+        good_payload(code, rng)
+    };
+    if aim == 32 || also(aim, &[13], rng) {
+        if rng.chance(50) {
+            spoil_words(&mut cells, rng);
+        } else {
+            let k = if rng.chance(50) {
+                d.r() - 1
+            } else {
+                rng.below(d.r())
+            };
+            latches[k] = rng.pick(&[0x4000, 0x7FFF, 0x8000, 0xFFFF]);
+        }
+    }
+    let none = aim == 35 || also(aim, &[13, 32, 30, 31], rng);
+    let words = if none { 0 } else { rng.between(1, 3) };
+    let mut fields = record(&d, aim, rng);
+    fields.extend([
+        at.into(),
+        latches.into(),
+        code.into(),
+        payload.into(),
+        lent_words(words, rng).into(),
+        cells.into(),
+    ]);
+    fields
+}
+
+fn push(stream: &mut Vec<u8>, code: u8, payload: u16) {
+    stream.push(code);
+    stream.extend(payload.to_le_bytes());
+}
+
+/// A stream of sound steps: a planned one, or steps at random that get about in the target.
+pub fn sound_stream(d: &Device, rng: &mut Rng) -> Vec<u8> {
+    let reading = reading_for(d, false, rng);
+    let image = image_for(d, &reading, rng);
+    match rng.below(8) {
+        0 => return own::update_stream(d, &own::wanted_over(&image, &reading), &reading),
+        1 => return own::fresh_stream(d, &own::wanted_blank(&image)),
+        2 => return own::read_back_stream(d),
+        _ => {}
+    }
+    let mut stream = Vec::new();
+    if rng.chance(1) {
+        // All the way to where a space wraps.
+        push(&mut stream, rng.pick(&[RESET, LOAD_CONFIGURATION]), 0);
+        for _ in 0..rng.between(0x7FFA, 0x8002) {
+            push(&mut stream, INCREMENT, 0);
+        }
+    }
+    let mut config = 0;
+    for _ in 0..rng.below(120) {
+        let code = match rng.below(20) {
+            0 => RESET,
+            1 | 2 => LOAD_CONFIGURATION,
+            3..=7 => LOAD_DATA,
+            8 | 9 => READ,
+            10 | 11 => BEGIN,
+            12 => ROW_ERASE,
+            13 if config <= 8 => BULK_ERASE,
+            _ => INCREMENT,
+        };
+        // How far the counter may be into configuration space: Bulk Erase stays out of what is above 8008h.
+        config = match code {
+            RESET => 0,
+            LOAD_CONFIGURATION => 0,
+            INCREMENT => config + 1,
+            _ => config,
+        };
+        push(&mut stream, code, good_payload(code, rng));
+    }
+    stream
+}
+
+/// Steps of which the last is refused with the number, whatever the target's state before.
+pub fn bad_step(number: u32, rng: &mut Rng) -> Vec<u8> {
+    let mut steps = Vec::new();
+    match number {
+        30 => {
+            let code = unknown_code(rng);
+            push(&mut steps, code, rng.pick(&[0, 0, 1, 0x7FFE]));
+        }
+        31 => {
+            let code = rng.pick(&CODES);
+            push(&mut steps, code, bad_payload(code, rng));
+        }
+        33 => {
+            push(
+                &mut steps,
+                LOAD_CONFIGURATION,
+                good_payload(LOAD_CONFIGURATION, rng),
+            );
+            for _ in 0..rng.between(9, 14) {
+                push(&mut steps, INCREMENT, 0);
+            }
+            push(&mut steps, BULK_ERASE, 0);
+        }
+        _ => push(&mut steps, READ, 0),
+    }
+    steps
+}
+
+/// Puts steps in at a step's place.
+pub fn put_in(stream: &mut Vec<u8>, steps: &[u8], rng: &mut Rng) -> usize {
+    let place = 3 * rng.below(stream.len() / 3 + 1);
+    stream.splice(place..place, steps.iter().copied());
+    (place + steps.len()) / 3
+}
+
+fn reads(stream: &[u8]) -> usize {
+    stream.chunks(3).filter(|s| s[0] == READ).count()
+}
+
+fn run(aim: u32, rng: &mut Rng) -> Vec<Field> {
+    let d = any_device(rng);
+    let mut cells = cells(&d, rng);
+    let mut stream = sound_stream(&d, rng);
+    let mut through = stream.len() / 3;
+    let wrong = match aim {
+        30 | 31 | 33 | 35 => Some(aim),
+        // An allowance that ends before the bad step.
+        0 if rng.chance(20) => Some(rng.pick(&[30, 31, 33])),
+        _ if also(aim, &[13, 32, 34], rng) => Some(rng.pick(&[30, 31, 33])),
+        _ => None,
+    };
+    if let Some(number) = wrong {
+        let steps = bad_step(number, rng);
+        through = put_in(&mut stream, &steps, rng);
+    }
+    let read = reads(&stream);
+    let words = match aim {
+        35 => rng.below(read),
+        0 if rng.chance(50) => read,
+        _ => read + rng.below(6),
+    };
+    if aim == 34 || also(aim, &[13, 32], rng) {
+        if rng.chance(50) || stream.is_empty() {
+            let n = rng.pick(&[1, 2]);
+            stream.extend(rng.bytes(n));
+        } else {
+            stream.truncate(stream.len() - rng.between(1, 2));
+        }
+    }
+    let allowance = match (aim, wrong) {
+        (0, Some(_)) => rng.below(through) as u64,
+        (0, None) => match rng.below(5) {
+            0 => through as u64,
+            1 => u64::MAX,
+            2 => (through + 1) as u64,
+            _ => rng.below(through + 1) as u64,
+        },
+        (34, _) if rng.chance(30) => 0,
+        (30 | 31 | 33, _) => through as u64 + rng.pick(&[0, 1, 1 << 32, u64::MAX / 2]),
+        _ => u64::MAX,
+    };
+    if aim == 32 || also(aim, &[13], rng) {
+        spoil_words(&mut cells, rng);
+    }
+    let mut fields = record(&d, aim, rng);
+    let lent = lent_words(words, rng);
+    fields.extend([cells.into(), stream.into(), allowance.into(), lent.into()]);
+    fields
+}
+
+pub fn target(name: &str, aim: u32, rng: &mut Rng) -> Vec<Field> {
+    if name == "step" {
+        step(aim, rng)
+    } else {
+        run(aim, rng)
+    }
+}
+
+/// Makes the image want a configuration bit that the reading has not.
+pub fn want_a_bit(d: &Device, image: &mut [u16], reading: &mut [u16], rng: &mut Rng) {
+    let at = d.p() + rng.pick(&[7, 8]);
+    let bit = 1 << rng.pick(&[0, 1, 6, 8, 9, 12, 13]);
+    reading[at] &= !bit;
+    image[at] = (reading[at] & if rng.chance(50) { rng.word() } else { WORD_MAX }) | bit;
+}
+
+fn update(aim: u32, rng: &mut Rng) -> Vec<Field> {
+    let d = any_device(rng);
+    let mut reading = reading_for(&d, false, rng);
+    let mut image = image_for(&d, &reading, rng);
+    let needed = own::update_stream(&d, &own::wanted_over(&image, &reading), &reading).len();
+    let short = aim == 26 || also(aim, &[13, 20, 21, 22, 23, 24], rng);
+    let length = room(needed, short, rng);
+    if aim == 24 || also(aim, &[13, 20, 21, 22, 23], rng) {
+        want_a_bit(&d, &mut image, &mut reading, rng);
+    }
+    if aim == 23 || also(aim, &[13, 20, 21, 22], rng) {
+        reading[d.p() + 7] &= !CP;
+    }
+    if aim == 22 || also(aim, &[13, 20, 21], rng) {
+        reading[d.p() + 6] ^= 1 << rng.below(14);
+    }
+    if aim == 21 || also(aim, &[13, 20], rng) {
+        spoil_words(&mut reading, rng);
+    }
+    if aim == 20 || also(aim, &[13], rng) {
+        spoil_image(&d, &mut image, rng);
+    }
+    let mut fields = record(&d, aim, rng);
+    fields.extend([image.into(), reading.into(), lent(length, rng).into()]);
+    fields
+}
+
+fn fresh(aim: u32, rng: &mut Rng) -> Vec<Field> {
+    let d = any_device(rng);
+    let reading = reading_for(&d, rng.chance(50), rng);
+    let mut image = image_for(&d, &reading, rng);
+    let needed = own::fresh_stream(&d, &own::wanted_blank(&image)).len();
+    let short = aim == 26 || also(aim, &[13, 20, 22], rng);
+    let length = room(needed, short, rng);
+    let mut id_word = d.id;
+    if aim == 22 || also(aim, &[13, 20], rng) {
+        id_word = if rng.chance(70) {
+            d.id ^ 1 << rng.below(16)
+        } else {
+            number(16, rng) as u16
+        };
+    }
+    if aim == 20 || also(aim, &[13], rng) {
+        spoil_image(&d, &mut image, rng);
+    }
+    let mut fields = record(&d, aim, rng);
+    fields.extend([image.into(), id_word.into(), lent(length, rng).into()]);
+    fields
+}
+
+pub fn plan(name: &str, aim: u32, rng: &mut Rng) -> Vec<Field> {
+    match name {
+        "update" => update(aim, rng),
+        "fresh" => fresh(aim, rng),
+        _ => {
+            let d = if rng.chance(99) {
+                device_of_size(8, rng)
+            } else {
+                any_device(rng)
+            };
+            let needed = own::read_back_stream(&d).len();
+            let short = aim == 26 || also(aim, &[13], rng);
+            let length = room(needed, short, rng);
+            let mut fields = record(&d, aim, rng);
+            fields.push(lent(length, rng).into());
+            fields
+        }
+    }
+}

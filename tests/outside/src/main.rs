@@ -1,0 +1,194 @@
+//! An implementation of its own of every call that can be asked, held against the command that is given.
+
+mod ask;
+mod bench;
+mod calls;
+mod cuts;
+mod device;
+mod field;
+mod form;
+mod gen;
+mod hex;
+mod judge;
+mod model;
+mod rng;
+mod sheet;
+mod streams;
+mod tally;
+mod words;
+mod worked;
+
+use ask::Peer;
+use calls::{Request, CALLS};
+use gen::Manner;
+use rng::Rng;
+use std::process::ExitCode;
+use tally::Tally;
+
+const USAGE: &str = "\
+outside [options] COMMAND [ARGS...]   hold COMMAND's answers against our own
+outside [options] --self              the worked cases, round trips and cuts on our own implementation
+outside --mock                        answer requests on standard input with our own implementation
+
+  --seed N     the seed of all inputs
+  --cases N    free inputs a call, beside those aimed at its numbers
+  --cuts N     cut runs
+  --long       the long form: 20,000 cases, 100,000 cuts
+  --only NAME  only the calls whose name begins so; no cuts, no malformed requests";
+
+/// Inputs aimed at each number of each call: above the hundred that must be seen, since an aim can miss.
+const AIMED: usize = 125;
+/// A batch's most requests, and about how many bytes it may have.
+const BATCH: usize = 20_000;
+const BATCH_BYTES: usize = 32 << 20;
+
+struct Options {
+    seed: u64,
+    cases: usize,
+    cuts: usize,
+    own: bool,
+    mock: bool,
+    only: String,
+    command: Vec<String>,
+}
+
+fn options() -> Result<Options, String> {
+    let mut o = Options {
+        seed: 0x7153_A117,
+        cases: 1_500,
+        cuts: 3_000,
+        own: false,
+        mock: false,
+        only: String::new(),
+        command: Vec::new(),
+    };
+    let mut words = std::env::args().skip(1);
+    while let Some(word) = words.next() {
+        let mut value = || words.next().ok_or(format!("{word} wants a value"));
+        let number = |text: String| text.parse::<u64>().map_err(|e| format!("{text}: {e}"));
+        match word.as_str() {
+            "--seed" => o.seed = number(value()?)?,
+            "--cases" => o.cases = number(value()?)? as usize,
+            "--cuts" => o.cuts = number(value()?)? as usize,
+            "--only" => o.only = value()?,
+            "--long" => (o.cases, o.cuts) = (20_000, 100_000),
+            "--self" => o.own = true,
+            "--mock" => o.mock = true,
+            _ if word.starts_with('-') => return Err(format!("no option {word}")),
+            _ => {
+                o.command = std::iter::once(word).chain(words.by_ref()).collect();
+            }
+        }
+    }
+    if o.command.is_empty() && !o.own && !o.mock {
+        return Err("no command".to_string());
+    }
+    Ok(o)
+}
+
+/// Requests gathered to a batch before they are asked.
+struct Asker<'a> {
+    peer: &'a Peer,
+    tally: &'a mut Tally,
+    batch: Vec<Request>,
+    bytes: usize,
+}
+
+impl Asker<'_> {
+    fn put(&mut self, request: Request) {
+        self.bytes += request.line().len();
+        self.batch.push(request);
+        if self.batch.len() >= BATCH || self.bytes >= BATCH_BYTES {
+            self.flush();
+        }
+    }
+
+    fn flush(&mut self) {
+        let tally = &mut *self.tally;
+        let ended = self
+            .peer
+            .ask(&self.batch, |r, answer| tally.compare(r, answer));
+        tally.check(ended.is_ok(), || ended.unwrap_err());
+        self.batch.clear();
+        self.bytes = 0;
+    }
+}
+
+/// A manner for a free input: half of them damaged in one place or several.
+fn manner(call: usize, rng: &mut Rng) -> Manner {
+    match rng.below(20) {
+        0..=4 => Manner::Aimed(rng.pick(CALLS[call].classes)),
+        5..=10 => Manner::Damaged(1),
+        11..=15 => Manner::Damaged(rng.between(2, 6)),
+        16 | 17 => Manner::Aimed(0),
+        _ => Manner::Random,
+    }
+}
+
+fn compare_all(o: &Options, peer: &Peer, tally: &mut Tally) {
+    let mut rng = Rng::new(o.seed);
+    let mut asker = Asker {
+        peer,
+        tally,
+        batch: Vec::new(),
+        bytes: 0,
+    };
+    for name in ["words.digit", "words.capital"] {
+        if name.starts_with(&o.only) {
+            (0..=255u8).for_each(|c| asker.put(Request::new(name, vec![c.into()])));
+        }
+    }
+    for (i, call) in CALLS
+        .iter()
+        .enumerate()
+        .filter(|(_, c)| c.name.starts_with(&o.only))
+    {
+        for &class in call.classes {
+            for _ in 0..AIMED {
+                asker.put(gen::request(i, Manner::Aimed(class), &mut rng));
+            }
+        }
+        for _ in 0..o.cases {
+            let manner = manner(i, &mut rng);
+            asker.put(gen::request(i, manner, &mut rng));
+        }
+    }
+    asker.flush();
+}
+
+fn main() -> ExitCode {
+    let o = match options() {
+        Ok(o) => o,
+        Err(why) => {
+            eprintln!("{why}\n\n{USAGE}");
+            return ExitCode::from(2);
+        }
+    };
+    if o.mock {
+        return ExitCode::from(u8::from(!ask::mock()));
+    }
+    println!("seed {}, {} cases a call, {} cuts", o.seed, o.cases, o.cuts);
+    let peer = if o.own {
+        Peer::Own
+    } else {
+        Peer::Command(o.command.clone())
+    };
+    let mut tally = Tally::new();
+    worked::check(&peer, &mut tally);
+    worked::round_trips(&mut Rng::new(o.seed ^ 1), &mut tally);
+    if !o.own {
+        compare_all(&o, &peer, &mut tally);
+        tally.report(&|name| name.starts_with(&o.only));
+    }
+    if o.only.is_empty() {
+        form::check(&peer, &mut tally);
+        cuts::check(&peer, o.cuts, &mut Rng::new(o.seed ^ 2), &mut tally);
+    } else {
+        println!(
+            "--only {}: malformed requests and cuts are left out",
+            o.only
+        );
+    }
+    println!("{} passed, {} failed", tally.passed, tally.failed);
+    ExitCode::from(u8::from(tally.failed > 0))
+}

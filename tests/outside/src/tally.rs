@@ -1,0 +1,131 @@
+//! What was compared: how often it agreed, which numbers were seen, and the first few differences.
+
+use crate::calls::{Request, CALLS};
+use std::collections::BTreeMap;
+
+/// Differences that are shown in full; the others are counted.
+const SHOWN: u64 = 12;
+/// How often each number of each call must be seen.
+pub const SEEN_AT_LEAST: u64 = 100;
+/// The longest part of a field that a message shows.
+const CUT: usize = 72;
+
+pub struct Tally {
+    pub passed: u64,
+    pub failed: u64,
+    failed_of: BTreeMap<&'static str, u64>,
+    seen: BTreeMap<(usize, u32), u64>,
+}
+
+/// A text cut to what a message can bear.
+pub fn cut(text: &[u8], from: usize) -> String {
+    let from = from.min(text.len()).saturating_sub(CUT / 2);
+    let end = (from + CUT).min(text.len());
+    let before = if from > 0 { "..." } else { "" };
+    let after = if end < text.len() {
+        format!("... ({} long)", text.len())
+    } else {
+        String::new()
+    };
+    format!(
+        "{before}{}{after}",
+        String::from_utf8_lossy(&text[from..end])
+    )
+}
+
+impl Tally {
+    pub fn new() -> Tally {
+        Tally {
+            passed: 0,
+            failed: 0,
+            failed_of: BTreeMap::new(),
+            seen: BTreeMap::new(),
+        }
+    }
+
+    pub fn check(&mut self, good: bool, message: impl FnOnce() -> String) {
+        if good {
+            self.passed += 1;
+        } else {
+            self.failed += 1;
+            if self.failed <= SHOWN {
+                println!("FAILED {}", message());
+            }
+        }
+    }
+
+    /// One answer held against our own; nothing is an answer that did not come.
+    pub fn compare(&mut self, request: &Request, answer: Option<&[u8]>) {
+        let name = request.call().name;
+        let own = request.own();
+        *self.seen.entry((request.call, own.class)).or_default() += 1;
+        let expected = crate::field::line(name, &own.fields);
+        let same = answer == Some(expected.as_slice());
+        if !same {
+            *self.failed_of.entry(name).or_default() += 1;
+        }
+        self.check(same, || difference(request, &expected, answer));
+    }
+
+    /// The table of calls and numbers; a number that was seen too seldom is a failure.
+    pub fn report(&mut self, asked: &dyn Fn(&str) -> bool) {
+        println!("\nanswers seen, call by number ({})", crate::calls::CLASSES);
+        for (i, call) in CALLS.iter().enumerate().filter(|(_, c)| asked(c.name)) {
+            let mut line = format!("{:<20}", call.name);
+            for (&(_, class), count) in self.seen.range((i, 0)..=(i, u32::MAX)) {
+                line.push_str(&format!(" {class}:{count}"));
+            }
+            println!("{line}");
+        }
+        for (i, call) in CALLS.iter().enumerate().filter(|(_, c)| asked(c.name)) {
+            for &class in call.classes {
+                let count = self.seen.get(&(i, class)).copied().unwrap_or(0);
+                self.check(count >= SEEN_AT_LEAST, || {
+                    format!("{} gave {class} only {count} times", call.name)
+                });
+            }
+            let others: Vec<u32> = self
+                .seen
+                .range((i, 0)..=(i, u32::MAX))
+                .map(|(&(_, class), _)| class)
+                .filter(|class| !call.classes.contains(class))
+                .collect();
+            self.check(others.is_empty(), || {
+                format!("{} gave numbers that it has not: {others:?}", call.name)
+            });
+        }
+        if !self.failed_of.is_empty() {
+            println!("\nanswers that differ, by call");
+            for (name, count) in &self.failed_of {
+                println!("{name:<20} {count}");
+            }
+        }
+    }
+}
+
+/// A message about two answers, each field of the request cut, and the answers shown from where they part.
+pub fn difference(request: &Request, expected: &[u8], answer: Option<&[u8]>) -> String {
+    let mut text = format!("{}\n", request.call().name);
+    for (i, field) in request.fields.iter().enumerate() {
+        let mut shown = Vec::new();
+        crate::field::put(&mut shown, field);
+        text.push_str(&format!("    field {i}: {}\n", cut(&shown, 0)));
+    }
+    let Some(answer) = answer else {
+        return text + "    no answer came";
+    };
+    let mine: Vec<&[u8]> = expected.split(|&c| c == b' ').collect();
+    let theirs: Vec<&[u8]> = answer.split(|&c| c == b' ').collect();
+    for i in 0..mine.len().max(theirs.len()) {
+        let (a, b) = (mine.get(i).copied(), theirs.get(i).copied());
+        let mark = if a == b { ' ' } else { '*' };
+        let (a, b) = (a.unwrap_or(b"(none)"), b.unwrap_or(b"(none)"));
+        let parts = a.iter().zip(b).position(|(x, y)| x != y).unwrap_or(0);
+        text.push_str(&format!(
+            "  {mark} expected {}\n  {mark} got      {}\n",
+            cut(a, parts),
+            cut(b, parts)
+        ));
+    }
+    text.trim_end().to_string()
+}

@@ -1,0 +1,565 @@
+//! The paper's worked cases and the maker's checksums, written out by hand; round trips of our own implementation.
+
+use crate::ask::Peer;
+use crate::calls::{device_fields, Request};
+use crate::device::{is_image, Device};
+use crate::field::{line, Field};
+use crate::gen::{device_of_size, image_for, reading_for};
+use crate::model::{self, Run};
+use crate::rng::Rng;
+use crate::tally::{cut, difference, Tally};
+use crate::words::{NOT_GIVEN, WORD_MAX};
+use crate::{bench, device, hex, judge, sheet, streams};
+
+const TINY: Device = Device {
+    id: 0x2A00,
+    words: 16,
+    row: 8,
+    mask1: 0x3EFF,
+    mask2: 0x3FF3,
+};
+const F1459: Device = Device {
+    id: 0x3023,
+    words: 8_192,
+    row: 32,
+    mask1: 0x3EFF,
+    mask2: 0x3FF3,
+};
+const TINY_LINE: &[u8] = b"TINY\t2A00\t16\t8\t3EFF\t3FF3\n";
+const END: &str = ":00000001FF\n";
+const CONFIGURED: &str = ":020000040001F9\n:02000E007F3F32\n:00000001FF\n";
+
+/// The whole listing of the paper.
+const LISTING: &str = "16\t0000\n00\t7FFE\n06\t0000\n06\t0000\n06\t0000\n06\t0000\n06\t0000\n\
+    06\t0000\n06\t0000\n02\t7EFE\n08\t0000\n";
+
+struct Case {
+    what: String,
+    request: Request,
+    expected: Vec<Field>,
+}
+
+fn case(
+    what: &str,
+    name: &str,
+    d: Option<&Device>,
+    rest: Vec<Field>,
+    expected: Vec<Field>,
+) -> Case {
+    let mut fields = d.map(device_fields).unwrap_or_default();
+    fields.extend(rest);
+    Case {
+        what: what.to_string(),
+        request: Request::new(name, fields),
+        expected,
+    }
+}
+
+fn number(n: u32) -> Field {
+    n.into()
+}
+
+/// A HEX text read for a device: number, line, and the words it gives.
+fn hex_case(d: &Device, text: &str, answer: (u32, u32), given: &[(usize, u16)]) -> Case {
+    // The lent image holds something that no reader writes.
+    let lent: Vec<u16> = (0..d.entries()).map(|i| i as u16 ^ 0x5A5A).collect();
+    let mut image = vec![NOT_GIVEN; d.entries()];
+    for &(entry, word) in given {
+        image[entry] = word;
+    }
+    let what = format!("HEX text {:?}", cut(text.as_bytes(), 0));
+    let expected = vec![number(answer.0), number(answer.1), image.into()];
+    case(
+        &what,
+        "ihex.read_hex",
+        Some(d),
+        vec![text.as_bytes().to_vec().into(), lent.into()],
+        expected,
+    )
+}
+
+fn one_word(upper: u16, offset: u16, word: u16) -> String {
+    let mut text = hex::record_text(0, 4, &upper.to_be_bytes());
+    text.extend(hex::record_text(offset, 0, &word.to_le_bytes()));
+    text.extend(END.bytes());
+    String::from_utf8(text).expect("a text")
+}
+
+fn hex_cases() -> Vec<Case> {
+    let p = F1459.p();
+    vec![
+        hex_case(&TINY, END, (0, 0), &[]),
+        hex_case(&TINY, ":00000001FF", (0, 0), &[]),
+        hex_case(&TINY, "", (10, 0), &[]),
+        hex_case(
+            &TINY,
+            ":020000000034CA\n:00000001FF\n",
+            (0, 0),
+            &[(0, 0x3400)],
+        ),
+        hex_case(&TINY, CONFIGURED, (0, 0), &[(16 + 7, 0x3F7F)]),
+        hex_case(
+            &F1459,
+            &one_word(0, 0x3FFE, 0x1234),
+            (0, 0),
+            &[(0x1FFF, 0x1234)],
+        ),
+        hex_case(&F1459, &one_word(0, 0x4000, 0x1234), (7, 2), &[]),
+        hex_case(
+            &F1459,
+            &one_word(1, 0x0006, 0x1234),
+            (0, 0),
+            &[(p + 3, 0x1234)],
+        ),
+        hex_case(&F1459, &one_word(1, 0x0008, 0x1234), (7, 2), &[]),
+        hex_case(&F1459, &one_word(1, 0x0012, 0x1234), (7, 2), &[]),
+    ]
+}
+
+/// A reading of one word all through, but for some.
+fn reading(d: &Device, fill: u16, others: &[(usize, u16)]) -> Vec<u16> {
+    let mut list = vec![fill; d.entries()];
+    for &(entry, word) in others {
+        list[entry] = word;
+    }
+    list
+}
+
+fn checksum_case(what: &str, d: &Device, others: &[(usize, u16)], sum: u16) -> Case {
+    let list = reading(d, WORD_MAX, others);
+    case(
+        what,
+        "judge.checksum",
+        Some(d),
+        vec![list.into()],
+        vec![number(0), sum.into()],
+    )
+}
+
+fn checksum_cases() -> Vec<Case> {
+    let protected = |d: &Device, ids: [u16; 4]| -> Vec<(usize, u16)> {
+        let p = d.p();
+        let mut others: Vec<(usize, u16)> = (0..4).map(|k| (p + k, ids[k])).collect();
+        others.push((p + 7, 0x3F7F));
+        others
+    };
+    let last = F1459.p() - 1;
+    let example3 = protected(&F1459, [6, 7, 1, 2]);
+    let example4 = protected(&F1459, [0xE, 8, 5, 8]);
+    let tiny4 = protected(&TINY, [0xE, 8, 5, 8]);
+    vec![
+        checksum_case("example 7-1", &F1459, &[], 0x5EF2),
+        checksum_case("example 7-2", &F1459, &[(0, 0xAA), (last, 0xAA)], 0xE048),
+        checksum_case("example 7-3", &F1459, &example3, 0xE584),
+        checksum_case("example 7-4", &F1459, &example4, 0x66CA),
+        checksum_case("example 7-4 on TINY", &TINY, &tiny4, 0x66CA),
+        checksum_case("blank TINY", &TINY, &[], 0x7EE2),
+    ]
+}
+
+/// The stream of an update of TINY's row, in full.
+fn row_case(row: usize) -> Case {
+    let board = reading(&TINY, WORD_MAX, &[(16 + 5, 0x2000), (16 + 6, 0x2A00)]);
+    let mut image = vec![NOT_GIVEN; TINY.entries()];
+    image[8 * row + 3] = 0x0155;
+    let mut stream = vec![0x16, 0, 0];
+    for _ in 0..8 * row {
+        stream.extend([0x06, 0, 0]);
+    }
+    stream.extend([0x11, 0, 0]);
+    for k in 0..8 {
+        stream.extend(if k == 3 {
+            [0x02, 0xAA, 0x02]
+        } else {
+            [0x02, 0xFE, 0x7F]
+        });
+        if k < 7 {
+            stream.extend([0x06, 0, 0]);
+        }
+    }
+    stream.extend([0x08, 0, 0]);
+    let steps: u32 = if row == 0 { 18 } else { 26 };
+    let lent: Vec<u8> = (0..100u8).collect();
+    let mut out = lent.clone();
+    out[..stream.len()].copy_from_slice(&stream);
+    case(
+        &format!("only row {row}"),
+        "plan.update",
+        Some(&TINY),
+        vec![image.into(), board.into(), lent.into()],
+        vec![number(0), number(steps), out.into()],
+    )
+}
+
+/// Loads at 0002h to 0009h, Begin at 0009h: the row of the counter is written, with what lay in each latch.
+fn latch_case() -> Case {
+    let cells = vec![WORD_MAX; TINY.cells()];
+    let mut stream = vec![0x16, 0, 0, 0x06, 0, 0, 0x06, 0, 0];
+    let word = |address: usize| 0x0100 + address as u16;
+    for address in 2..=9 {
+        stream.push(0x02);
+        stream.extend((2 * word(address)).to_le_bytes());
+        if address < 9 {
+            stream.extend([0x06, 0, 0]);
+        }
+    }
+    stream.extend([0x08, 0, 0]);
+    let steps = stream.len() / 3;
+    let mut after = cells.clone();
+    for (k, cell) in after[8..16].iter_mut().enumerate() {
+        // Latches 0 and 1 were loaded at 0008h and 0009h, the others at 0002h to 0007h.
+        *cell = word(if k < 2 { 8 + k } else { k });
+    }
+    let lent: Vec<u16> = vec![0x1111, 0xFFFF];
+    case(
+        "the maker's example of a row",
+        "target.run",
+        Some(&TINY),
+        vec![
+            cells.into(),
+            stream.into(),
+            Field::Num(1_000),
+            lent.clone().into(),
+        ],
+        vec![
+            number(0),
+            steps.into(),
+            number(0),
+            after.into(),
+            lent.into(),
+        ],
+    )
+}
+
+fn bench_case(what: &str, name: &str, files: &[&[u8]], text: &str) -> Case {
+    let lent: Vec<u8> = (0..text.len() + 7).map(|i| i as u8 ^ 0xA5).collect();
+    let mut out = lent.clone();
+    out[..text.len()].copy_from_slice(text.as_bytes());
+    let mut fields: Vec<Field> = files.iter().map(|f| f.to_vec().into()).collect();
+    fields.push(lent.into());
+    case(
+        what,
+        name,
+        None,
+        fields,
+        vec![text.len().into(), out.into()],
+    )
+}
+
+fn bench_cases() -> Vec<Case> {
+    let blank: String = (0..2)
+        .map(|l| format!("{:04X}{}\n", 8 * l, "\t3FFF".repeat(8)))
+        .collect();
+    let head = "\t3FFF".repeat(4);
+    let last = format!("8000{head}\t3FFF\t2000\t2A00\t3FFF\t3FFF\n");
+    let board = format!("2A00\n{blank}{last}");
+    let board = board.as_bytes();
+    // 0009h and two IDs differ.
+    let other = format!(
+        "2A00\n0000{}\n0008\t3FFF\t0001{}\n8000\t3FFF\t0002\t0003\t3FFF\t0000\t0000\t0000\t3FFF\t3FFF\n",
+        "\t3FFF".repeat(8),
+        "\t3FFF".repeat(6)
+    );
+    let hex = CONFIGURED.as_bytes();
+    let wrong_sum = ":00000001FE".as_bytes();
+    let protected =
+        String::from_utf8_lossy(board).replace("2A00\t3FFF\t3FFF\n", "2A00\t3F7F\t3FFF\n");
+    let protected = protected.as_bytes();
+    let written = String::from_utf8_lossy(protected).to_string();
+    let dump = ":10000000FF3FFF3FFF3FFF3FFF3FFF3FFF3FFF3F00\n\
+        :10001000FF3FFF3FFF3FFF3FFF3FFF3FFF3FFF3FF0\n\
+        :020000040001F9\n:08000000FF3FFF3FFF3FFF3F00\n:02000E00FF3FB2\n:02001000FF3FB0\n:00000001FF\n";
+    vec![
+        bench_case(
+            "the whole listing",
+            "bench.update",
+            &[TINY_LINE, board, hex],
+            LISTING,
+        ),
+        bench_case(
+            "no table",
+            "bench.update",
+            &[b"", board, hex],
+            "refused\t15\t0\n",
+        ),
+        bench_case(
+            "no sheet",
+            "bench.update",
+            &[TINY_LINE, b"", hex],
+            "refused\t14\t0\n",
+        ),
+        bench_case(
+            "no file",
+            "bench.update",
+            &[TINY_LINE, board, b""],
+            "refused\t10\t0\n",
+        ),
+        bench_case(
+            "a wrong sum",
+            "bench.update",
+            &[TINY_LINE, board, wrong_sum],
+            "refused\t3\t1\n",
+        ),
+        bench_case(
+            "an update of a protected board",
+            "bench.update",
+            &[TINY_LINE, protected, hex],
+            "refused\t23\t0\n",
+        ),
+        bench_case(
+            "an unknown ID",
+            "bench.checksum",
+            &[TINY_LINE, b"3023\n"],
+            "refused\t16\t0\n",
+        ),
+        bench_case(
+            "line 1 alone",
+            "bench.checksum",
+            &[TINY_LINE, b"2A00\n"],
+            "refused\t14\t0\n",
+        ),
+        bench_case(
+            "blank TINY's sum",
+            "bench.checksum",
+            &[TINY_LINE, board],
+            "7EE2\n",
+        ),
+        bench_case(
+            "the same",
+            "bench.verify",
+            &[TINY_LINE, board, board],
+            "0\n",
+        ),
+        bench_case(
+            "three differ",
+            "bench.verify",
+            &[TINY_LINE, board, other.as_bytes()],
+            "40\t0009\t3\n",
+        ),
+        bench_case(
+            "protected",
+            "bench.verify",
+            &[TINY_LINE, protected, protected],
+            "41\n",
+        ),
+        bench_case(
+            "the listing played",
+            "bench.trial",
+            &[TINY_LINE, board, LISTING.as_bytes()],
+            &written,
+        ),
+        bench_case(
+            "an unknown code",
+            "bench.trial",
+            &[TINY_LINE, board, b"16\t0000\n18\t0000\n"],
+            "refused\t30\t2\n",
+        ),
+        bench_case(
+            "small digits",
+            "bench.trial",
+            &[TINY_LINE, board, b"16\t0000\n02\t7efe\n"],
+            "refused\t34\t2\n",
+        ),
+        bench_case("a whole copy", "bench.dump", &[TINY_LINE, board], dump),
+    ]
+}
+
+fn cases() -> Vec<Case> {
+    let mut all = hex_cases();
+    all.extend(checksum_cases());
+    all.extend([row_case(0), row_case(1), latch_case()]);
+    all.extend(bench_cases());
+    let table: Vec<u8> = b"PIC16F1459\t3023\t8192\t32\t3EFF\t3FF3\n".to_vec();
+    let mut found = vec![number(0)];
+    found.extend(device_fields(&F1459));
+    found.extend([number(0), number(10)]);
+    all.push(case(
+        "the family's line",
+        "device.find_device",
+        None,
+        vec![table.into(), number(0x3023)],
+        found,
+    ));
+    all.push(case(
+        "a doubled address",
+        "words.double",
+        None,
+        vec![number(32_775)],
+        vec![number(65_550)],
+    ));
+    let none = vec![Vec::<u16>::new().into()];
+    all.push(case(
+        "no reading",
+        "judge.checksum",
+        Some(&TINY),
+        none,
+        vec![number(21), number(0)],
+    ));
+    all
+}
+
+/// The worked cases: our own answers against what stands in the paper, then the command's.
+pub fn check(peer: &Peer, tally: &mut Tally) {
+    let cases = cases();
+    let mut hold = |c: &Case, who: &str, answer: Option<&[u8]>| {
+        let expected = line(c.request.call().name, &c.expected);
+        tally.check(answer == Some(expected.as_slice()), || {
+            let parts = difference(&c.request, &expected, answer);
+            format!("worked, {who}: {}: {parts}", c.what)
+        });
+    };
+    for c in &cases {
+        let own = line(c.request.call().name, &c.request.own().fields);
+        hold(c, "our own", Some(&own));
+    }
+    if matches!(peer, Peer::Own) {
+        return;
+    }
+    let requests: Vec<Request> = cases.iter().map(|c| c.request.clone()).collect();
+    let mut rest = cases.iter();
+    let ended = peer.ask(&requests, |_, answer| {
+        hold(
+            rest.next().expect("a case for each answer"),
+            "the command's",
+            answer,
+        );
+    });
+    tally.check(ended.is_ok(), || ended.unwrap_err());
+}
+
+/// The device whose sizes the round trips use: the largest now and then.
+fn some_device(i: usize, rng: &mut Rng) -> Device {
+    match i % 50 {
+        0 => F1459,
+        1 => device_of_size(256, rng),
+        _ => device_of_size(8, rng),
+    }
+}
+
+/// What is written is read back; what is planned does what is wanted; a run is its single steps.
+pub fn round_trips(rng: &mut Rng, tally: &mut Tally) {
+    for i in 0..200 {
+        let d = some_device(i, rng);
+        let board = reading_for(&d, false, rng);
+        let image = image_for(&d, &board, rng);
+        tally.check(is_image(d.p(), &image), || {
+            "an image that is none".to_string()
+        });
+        texts_trip(&d, &board, &image, tally);
+        update_trip(&d, &board, &image, tally);
+        fresh_trip(&d, &image, rng, tally);
+        steps_trip(&d, &board, &image, rng, tally);
+    }
+}
+
+fn texts_trip(d: &Device, board: &[u16], image: &[u16], tally: &mut Tally) {
+    let read = hex::image(d, &hex::text(d, image), hex::TEXT_MAX);
+    tally.check(read.as_deref() == Ok(image), || {
+        format!("HEX written and read: {d:?}")
+    });
+    let whole = bench::whole_image(d, board);
+    let read = hex::image(d, &hex::text(d, &whole), hex::PROGRAM_TEXT_MAX);
+    tally.check(read == Ok(whole), || format!("a dump read: {d:?}"));
+    let read = sheet::reading(d, &sheet::text(d, board));
+    tally.check(read.as_deref() == Some(board), || {
+        format!("a sheet written and read: {d:?}")
+    });
+    let size = sheet::text(d, board).len();
+    tally.check(size == 5 + 45 * d.p() / 8 + 50, || {
+        format!("a sheet's length: {size}")
+    });
+    let text = format!(
+        "a b\t{:04X}\t{}\t{}\t{:04X}\t{:04X}\n",
+        d.id, d.words, d.row, d.mask1, d.mask2
+    );
+    let found = device::find(text.as_bytes(), d.id).map(|l| l.device);
+    tally.check(found == Ok(*d), || format!("a table's line: {text:?}"));
+    let same = judge::verify(d, board, board);
+    tally.check(same == (0, 0, 0), || {
+        format!("a reading verified against itself: {same:?}")
+    });
+}
+
+/// The cells after a whole run that must be sound, with the words read.
+fn played(d: &Device, cells: &[u16], stream: &[u8], tally: &mut Tally) -> (Vec<u16>, Vec<u16>) {
+    let mut cells = cells.to_vec();
+    let mut words = vec![0; stream.len() / 3];
+    let run = model::run(d, &mut cells, stream, u64::MAX, &mut words);
+    let whole = run.number == 0 && run.steps as usize == stream.len() / 3;
+    tally.check(whole, || format!("a planned stream is refused: {run:?}"));
+    words.truncate(run.read);
+    (cells, words)
+}
+
+fn update_trip(d: &Device, board: &[u16], image: &[u16], tally: &mut Tally) {
+    if let Some(n) = streams::update_refusal(d, image, board) {
+        tally.check(false, || format!("a sound update is refused with {n}"));
+        return;
+    }
+    let wanted = streams::wanted_over(image, board);
+    let stream = streams::update_stream(d, &wanted, board);
+    tally.check(stream.len() / 3 <= streams::steps_bound(d), || {
+        "too many steps".to_string()
+    });
+    let mut cells = board.to_vec();
+    cells.extend([0x1234, 0x0567]);
+    let (after, _) = played(d, &cells, &stream, tally);
+    let mut end = wanted.clone();
+    end.extend([0x1234, 0x0567]);
+    tally.check(after == end, || {
+        format!("an update does not end in what is wanted: {d:?}")
+    });
+    let unprotected = !d.protected(&after);
+    let back = streams::read_back_stream(d);
+    tally.check(back.len() / 3 == 2 * d.p() + 18, || {
+        "read-back's steps".to_string()
+    });
+    let (_, words) = played(d, &after, &back, tally);
+    let same = words.len() == d.entries()
+        && words[d.p()..] == wanted[d.p()..]
+        && (words[..d.p()] == wanted[..d.p()])
+            == (unprotected || wanted[..d.p()].iter().all(|&w| w == 0));
+    tally.check(same, || format!("a read-back is not the board: {d:?}"));
+}
+
+fn fresh_trip(d: &Device, image: &[u16], rng: &mut Rng, tally: &mut Tally) {
+    let mut cells = reading_for(d, rng.chance(50), rng);
+    cells.extend([rng.word(), rng.word()]);
+    let wanted = streams::wanted_blank(image);
+    let stream = streams::fresh_stream(d, &wanted);
+    tally.check(stream.len() / 3 <= streams::steps_bound(d), || {
+        "too many steps".to_string()
+    });
+    let (after, _) = played(d, &cells, &stream, tally);
+    let p = d.p();
+    let mut end = wanted;
+    end[p + 4..p + 7].copy_from_slice(&cells[p + 4..p + 7]);
+    end.extend_from_slice(&cells[p + 9..]);
+    tally.check(after == end, || {
+        format!("a fresh stream does not end in what is wanted: {d:?}")
+    });
+}
+
+/// A run with an allowance is entry and that many single steps.
+fn steps_trip(d: &Device, board: &[u16], image: &[u16], rng: &mut Rng, tally: &mut Tally) {
+    let stream = streams::update_stream(d, &streams::wanted_over(image, board), board);
+    let allowance = rng.below(stream.len() / 3 + 1);
+    let mut cells = board.to_vec();
+    cells.extend([WORD_MAX; 2]);
+    let mut single = cells.clone();
+    let run = model::run(d, &mut cells, &stream, allowance as u64, &mut []);
+    let mut registers = model::entry();
+    let mut refused = 0;
+    for s in stream.chunks(3).take(allowance) {
+        let payload = u16::from_le_bytes([s[1], s[2]]);
+        refused += model::step(d, &mut registers, s[0], payload, &mut [], &mut single);
+    }
+    let good =
+        run == Run {
+            number: 0,
+            steps: allowance as u64,
+            read: 0,
+        } && refused == 0
+            && cells == single;
+    tally.check(good, || format!("a run is not its steps: {d:?}"));
+}
