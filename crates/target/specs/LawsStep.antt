@@ -13,6 +13,7 @@ use Rattle.words.specs.Word.{isWord}
 use Rattle.words.specs.LawsChoice.{pick-true, pick-false}
 use Rattle.words.specs.LawsLists.{every-all, every-no}
 use Rattle.words.specs.LawsWord.{is-word, not-word}
+use Rattle.words.specs.declared.WordAddress.{WordAddress}
 use Rattle.device.specs.declared.Device.{Device}
 use Rattle.device.specs.Record.{deviceOk}
 use Rattle.target.specs.Chip.{Chip, chipOf}
@@ -29,6 +30,10 @@ use Rattle.target.specs.declared.Registers.{Registers}
 -- a target of its parts
 abbrev pub target : Registers → (read : ℕ) → (words cells : List ℕ) → Target
 target r read words cells = record { registers = r; cells = cells; words = words; read = read }
+
+-- registers of their parts
+abbrev pub held : WordAddress → (latches : List ℕ) → Registers
+held counter latches = record { counter = counter; latches = latches }
 
 -- the words after an order, by its parts
 unfoldable pub wordsTaken : Chip → Order → (a read : ℕ) → (words cells : List ℕ) → List ℕ
@@ -91,8 +96,6 @@ module _ (d : Device) (o : Order) (a read : ℕ) (words cells : List ℕ) where
   unfolding readAfter wordsTaken
   read-taken w e f = record { count = rw e; taken = rw (e, f) }
 
-pub ruleset silent = (load-configuration-silent, load-data-silent, increment-silent, reset-silent, begin-silent, bulk-erase-silent, row-erase-silent)
-
 -- Read that is not refused has room
 pub read-room : (d : Device) (o : Order) (a n read : ℕ) → o ≡ Read → orderNumber (chipOf d) o a (n - read) ≡ 0 → read < n
 read-room d o a n read e z = by (decLt read n)
@@ -151,8 +154,6 @@ module _ (d : Device) (o : Order) (a room : ℕ) where
   pub read-refused : o ≡ Read → room ≡ 0 → 35 ≡ orderNumber (chipOf d) o a room
   unfolding orderNumber pick
   read-refused e h = rw (e, eq-eqb room 0 h)
-
-pub ruleset accepted = (load-configuration-accepted, load-data-accepted, increment-accepted, reset-accepted, begin-accepted, row-erase-accepted)
 
 -- ---- an order obeyed
 

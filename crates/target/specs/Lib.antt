@@ -8,6 +8,7 @@ pub mod LawsEffects
 pub mod LawsHits
 pub mod LawsCells
 pub mod LawsStep
+pub mod LawsOrders
 pub mod LawsRun
 pub mod LawsCrash
 pub mod LawsBoard

@@ -1,5 +1,4 @@
 // What each order does to the cells, and the word that is read.
-use crate::Order;
 use device::Device;
 use words::ERASED;
 use words::WordAddress;
@@ -11,36 +10,12 @@ ghost use Rattle.words.specs.Word.{erased};
 ghost use Rattle.words.specs.Lists.{overlay};
 ghost use Rattle.device.specs.LawsRecord.{Rules};
 ghost use Rattle.target.specs.Chip.{chipOf};
-ghost use Rattle.target.specs.Effects.{protected, edit, rowErased, bulkErased, written, burnt, cellsAfter, wordRead};
+ghost use Rattle.target.specs.Effects.{protected, edit, rowErased, bulkErased, written, burnt, wordRead};
 ghost use Rattle.target.specs.LawsHits.{canWrite};
 
 const BASE: usize = 0x8000;
 
 const LAST_ERASE: usize = 0x8008;
-
-// The cells after an order.
-pub(crate) fn cells_after(
-    d: Device,
-    order: Order,
-    at: WordAddress,
-    latches: &[u16; 32],
-    cells: &mut [u16],
-)
-    requires { ⌜ Rules d ⌝ }
-    requires { ⌜ length (now cells) ≡ d .words + 11 ⌝ }
-    ensures { λ _. ⌜ now (cells .exit) ≡ cellsAfter (chipOf d) order (at .0) (now (latches .entry)) (now (cells .entry)) ⌝ }
-{
-    match order {
-        Order::LoadConfiguration(_) => {}
-        Order::LoadData(_) => {}
-        Order::Read => {}
-        Order::Increment => {}
-        Order::ResetAddress => {}
-        Order::Begin => write_at(d, at, latches, cells),
-        Order::BulkErase => erase_all(d, at, cells),
-        Order::RowErase => erase_row(d, at, cells),
-    }
-}
 
 // The word that Read answers: 0 for a program word while protected, and for a word that does not exist.
 pub(crate) fn word_at(d: Device, at: WordAddress, cells: &[u16]) -> u16
@@ -67,7 +42,7 @@ fn is_protected(d: Device, cells: &[u16]) -> bool
 }
 
 // Row Erase.
-fn erase_row(d: Device, at: WordAddress, cells: &mut [u16])
+pub(crate) fn erase_row(d: Device, at: WordAddress, cells: &mut [u16])
     requires { ⌜ Rules d ⌝ }
     requires { ⌜ length (now cells) ≡ d .words + 11 ⌝ }
     ensures { λ _. ⌜ now (cells .exit) ≡ edit (rowErased (chipOf d) (at .0) (now (cells .entry))) (λ i. erased) (now (cells .entry)) ⌝ }
@@ -92,7 +67,7 @@ fn erase_row(d: Device, at: WordAddress, cells: &mut [u16])
 }
 
 // Bulk Erase, where it is not refused.
-fn erase_all(d: Device, at: WordAddress, cells: &mut [u16])
+pub(crate) fn erase_all(d: Device, at: WordAddress, cells: &mut [u16])
     requires { ⌜ Rules d ⌝ }
     requires { ⌜ length (now cells) ≡ d .words + 11 ⌝ }
     ensures { λ _. ⌜ now (cells .exit) ≡ edit (bulkErased (chipOf d) (at .0)) (λ i. erased) (now (cells .entry)) ⌝ }
@@ -111,7 +86,7 @@ fn erase_all(d: Device, at: WordAddress, cells: &mut [u16])
 }
 
 // Begin.
-fn write_at(d: Device, at: WordAddress, latches: &[u16; 32], cells: &mut [u16])
+pub(crate) fn write_at(d: Device, at: WordAddress, latches: &[u16; 32], cells: &mut [u16])
     requires { ⌜ Rules d ⌝ }
     requires { ⌜ length (now cells) ≡ d .words + 11 ⌝ }
     ensures { λ _. ⌜ now (cells .exit) ≡ edit (written (chipOf d) (at .0) (now (cells .entry))) (burnt (chipOf d) (at .0) (now (latches .entry)) (now (cells .entry))) (now (cells .entry)) ⌝ }

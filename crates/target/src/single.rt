@@ -3,25 +3,30 @@ use crate::Decoded;
 use crate::Order;
 use crate::Registers;
 use crate::Stepped;
-use crate::cells::cells_after;
+use crate::cells::erase_all;
+use crate::cells::erase_row;
 use crate::cells::word_at;
+use crate::cells::write_at;
 use crate::decode::decode;
-use crate::effects::registers_after;
+use crate::effects::clear_latches;
+use crate::effects::load_latch;
+use crate::effects::next_address;
 use device::Device;
+use words::CONFIG_BASE;
 use words::WORD_LIMIT;
 use words::WordAddress;
 ghost use mathlib.Core.Path.{_≡_};
-ghost use Prim.Native.Nat.{_+_, _-_, _≤_, _<_};
+ghost use Prim.Native.Nat.{_+_, _≤_};
 ghost use lib.ListN.{length};
 ghost use Rattle.device.specs.LawsRecord.{Rules};
-ghost use Rattle.target.specs.Chip.{chipOf};
-ghost use Rattle.target.specs.Step.{decoded, orderNumber, soundLatches, Steps};
-ghost use Rattle.target.specs.LawsStep.{Taken, Obeys, Advances};
+ghost use Rattle.target.specs.Step.{decoded, soundLatches, Steps};
+ghost use Rattle.target.specs.LawsStep.{held, Obeys, Advances};
+ghost use Rattle.target.specs.LawsOrders.{Fetches, ErasesAll};
 
-// What an order leaves beside the cells and the words: its refusal or 0, the registers, and how many words are read.
+// What an order leaves beside the latches, the cells and the words: its refusal or 0, the counter, and how many words are read.
 pub(crate) struct Obeyed {
     pub number: u8,
-    pub registers: Registers,
+    pub counter: WordAddress,
     pub read: usize,
 }
 
@@ -48,15 +53,17 @@ pub fn step(
             registers: r,
         };
     }
-    let latches = r.latches;
+    let mut latches = r.latches;
     if latches_ok(d, &latches) {} else {
         return Stepped {
             number: 32,
             registers: r,
         };
     }
-    let o = perform(d, code, payload, r, 0, words, cells);
-    let registers = o.registers;
+    let at = r.counter;
+    let o = perform(d, code, payload, at, 0, &mut latches, words, cells);
+    let counter = o.counter;
+    let registers = Registers { counter, latches };
     Stepped {
         number: o.number,
         registers,
@@ -68,100 +75,110 @@ pub(crate) fn perform(
     d: Device,
     code: u8,
     payload: u16,
-    r: Registers,
+    at: WordAddress,
     read: usize,
+    latches: &mut [u16; 32],
     words: &mut [u16],
     cells: &mut [u16],
 ) -> Obeyed
     requires { ⌜ Rules d ⌝ }
     requires { ⌜ (length (now cells) ≡ d .words + 11) × (read ≤ length (now words)) ⌝ }
-    ensures { λ o. ⌜ Advances d (decoded code payload) r read (now (words .entry)) (now (cells .entry)) (o .number) (o .registers) (o .read) (now (words .exit)) (now (cells .exit)) ⌝ }
+    ensures { λ o. ⌜ Advances d (decoded code payload) (held at (now (latches .entry))) read (now (words .entry)) (now (cells .entry)) (o .number) (held (o .counter) (now (latches .exit))) (o .read) (now (words .exit)) (now (cells .exit)) ⌝ }
 {
     match decode(code, payload) {
         Decoded::Refused(number) => Obeyed {
             number,
-            registers: r,
+            counter: at,
             read,
         },
-        Decoded::Do(order) => obey(d, order, r, read, words, cells),
+        Decoded::Do(order) => obey(d, order, at, read, latches, words, cells),
     }
 }
 
 fn obey(
     d: Device,
     order: Order,
-    r: Registers,
+    at: WordAddress,
     read: usize,
+    latches: &mut [u16; 32],
     words: &mut [u16],
     cells: &mut [u16],
 ) -> Obeyed
     requires { ⌜ Rules d ⌝ }
     requires { ⌜ (length (now cells) ≡ d .words + 11) × (read ≤ length (now words)) ⌝ }
-    ensures { λ o. ⌜ Obeys d order r read (now (words .entry)) (now (cells .entry)) (o .number) (o .registers) (o .read) (now (words .exit)) (now (cells .exit)) ⌝ }
+    ensures { λ o. ⌜ Obeys d order (held at (now (latches .entry))) read (now (words .entry)) (now (cells .entry)) (o .number) (held (o .counter) (now (latches .exit))) (o .read) (now (words .exit)) (now (cells .exit)) ⌝ }
 {
-    let at = r.counter;
-    let number = order_number(d, order, at, words.len() - read);
-    if number != 0 {
+    match order {
+        Order::LoadConfiguration(w) => {
+            latches[0] = w;
+            done(WordAddress(CONFIG_BASE), read)
+        }
+        Order::LoadData(w) => {
+            load_latch(d, at, w, latches);
+            done(at, read)
+        }
+        Order::Read => fetch(d, at, read, words, cells),
+        Order::Increment => done(next_address(at), read),
+        Order::ResetAddress => done(WordAddress(0), read),
+        Order::Begin => {
+            write_at(d, at, latches, cells);
+            clear_latches(latches);
+            done(at, read)
+        }
+        Order::BulkErase => {
+            let number = bulk_erase(d, at, cells);
+            Obeyed {
+                number,
+                counter: at,
+                read,
+            }
+        }
+        Order::RowErase => {
+            erase_row(d, at, cells);
+            done(at, read)
+        }
+    }
+}
+
+fn done(counter: WordAddress, read: usize) -> Obeyed
+    ensures { λ o. ⌜ o ≡ record { number = 0; counter = counter; read = read } ⌝ }
+{
+    Obeyed {
+        number: 0,
+        counter,
+        read,
+    }
+}
+
+// The word read goes to the next place of the buffer; 35 where there is none.
+fn fetch(d: Device, at: WordAddress, read: usize, words: &mut [u16], cells: &[u16]) -> Obeyed
+    requires { ⌜ Rules d ⌝ }
+    requires { ⌜ (length (now cells) ≡ d .words + 11) × (read ≤ length (now words)) ⌝ }
+    ensures { λ o. ⌜ Fetches d at read (now (words .entry)) (now (cells .entry)) (o .number) (o .counter) (o .read) (now (words .exit)) ⌝ }
+{
+    if read == words.len() {
         return Obeyed {
-            number,
-            registers: r,
+            number: 35,
+            counter: at,
             read,
         };
     }
-    let more = take_word(d, order, at, read, words, cells);
-    let latches = r.latches;
-    cells_after(d, order, at, &latches, cells);
-    let registers = registers_after(d, order, r);
-    Obeyed {
-        number: 0,
-        registers,
-        read: more,
-    }
+    let w = word_at(d, at, cells);
+    words[read] = w;
+    done(at, read + 1)
 }
 
-// 33 for Bulk Erase past the words at which it acts, 35 for Read with no room for its word.
-fn order_number(d: Device, order: Order, at: WordAddress, room: usize) -> u8
-    ensures { λ r. ⌜ r ≡ orderNumber (chipOf d) order (at .0) room ⌝ }
-{
-    match order {
-        Order::LoadConfiguration(_) => 0,
-        Order::LoadData(_) => 0,
-        Order::Read => if room == 0 { 35 } else { 0 },
-        Order::Increment => 0,
-        Order::ResetAddress => 0,
-        Order::Begin => 0,
-        Order::BulkErase => if 0x8008 < at.0 { 33 } else { 0 },
-        Order::RowErase => 0,
-    }
-}
-
-// The word read goes to the next place of the buffer.
-fn take_word(
-    d: Device,
-    order: Order,
-    at: WordAddress,
-    read: usize,
-    words: &mut [u16],
-    cells: &[u16],
-) -> usize
+// Bulk Erase; 33 past the words at which it acts.
+fn bulk_erase(d: Device, at: WordAddress, cells: &mut [u16]) -> u8
     requires { ⌜ Rules d ⌝ }
-    requires { ⌜ (length (now cells) ≡ d .words + 11) × (orderNumber (chipOf d) order (at .0) (length (now words) - read) ≡ 0) × (read ≤ length (now words)) ⌝ }
-    ensures { λ r. ⌜ Taken d order (at .0) read (now (words .entry)) (now (cells .entry)) r (now (words .exit)) ⌝ }
+    requires { ⌜ length (now cells) ≡ d .words + 11 ⌝ }
+    ensures { λ n. ⌜ ErasesAll d at (now (cells .entry)) n (now (cells .exit)) ⌝ }
 {
-    match order {
-        Order::LoadConfiguration(_) => read,
-        Order::LoadData(_) => read,
-        Order::Read => {
-            let w = word_at(d, at, cells);
-            words[read] = w;
-            read + 1
-        }
-        Order::Increment => read,
-        Order::ResetAddress => read,
-        Order::Begin => read,
-        Order::BulkErase => read,
-        Order::RowErase => read,
+    if 0x8008 < at.0 {
+        return 33;
     }
+    erase_all(d, at, cells);
+    0
 }
 
 // Whether the latches that count are words.

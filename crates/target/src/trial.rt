@@ -1,16 +1,16 @@
 // A trial run: entry, and then as many steps of a stream as it may take.
 use crate::Ran;
-use crate::Registers;
-use crate::effects::enter;
 use crate::single::Obeyed;
 use crate::single::perform;
 use device::Device;
+use words::ERASED;
+use words::WordAddress;
 ghost use mathlib.Core.Path.{_≡_};
 ghost use Prim.Native.Nat.{_+_, _*_, _≤_, _<_, min};
 ghost use lib.ListN.{length, getD};
 ghost use Rattle.device.specs.LawsRecord.{Rules};
 ghost use Rattle.target.specs.Run.{stepAt, runRefusal, Runs};
-ghost use Rattle.target.specs.LawsStep.{Advances};
+ghost use Rattle.target.specs.LawsStep.{held, Advances};
 ghost use Rattle.target.specs.LawsRun.{Goes};
 
 // Runs a stream on a target: 13, 32 and 34 before the first step, and then the refusal of the step that stops it.
@@ -50,11 +50,12 @@ fn go(d: Device, cells: &mut [u16], stream: &[u8], steps: usize, words: &mut [u1
     requires { ⌜ (length (now cells) ≡ d .words + 11) × (3 * steps ≤ length (now stream)) ⌝ }
     ensures { λ r. ⌜ Goes d (now (stream .entry)) steps (now (words .entry)) (now (cells .entry)) r (now (words .exit)) (now (cells .exit)) ⌝ }
 {
-    let mut registers = enter();
+    let mut counter = WordAddress(0);
+    let mut latches = [ERASED; 32];
     let mut read = 0;
     let mut done = 0;
     while done < steps {
-        let o = next_step(d, stream, done, registers, read, words, cells);
+        let o = next_step(d, stream, done, counter, read, &mut latches, words, cells);
         let number = o.number;
         if number != 0 {
             return Ran {
@@ -63,7 +64,7 @@ fn go(d: Device, cells: &mut [u16], stream: &[u8], steps: usize, words: &mut [u1
                 words: 0,
             };
         }
-        registers = o.registers;
+        counter = o.counter;
         read = o.read;
         done += 1;
     }
@@ -78,17 +79,27 @@ fn next_step(
     d: Device,
     stream: &[u8],
     k: usize,
-    r: Registers,
+    at: WordAddress,
     read: usize,
+    latches: &mut [u16; 32],
     words: &mut [u16],
     cells: &mut [u16],
 ) -> Obeyed
     requires { ⌜ Rules d ⌝ }
     requires { ⌜ (length (now cells) ≡ d .words + 11) × (read ≤ length (now words)) × (3 * k + 3 ≤ length (now stream)) ⌝ }
-    ensures { λ o. ⌜ Advances d (stepAt (now (stream .entry)) k) r read (now (words .entry)) (now (cells .entry)) (o .number) (o .registers) (o .read) (now (words .exit)) (now (cells .exit)) ⌝ }
+    ensures { λ o. ⌜ Advances d (stepAt (now (stream .entry)) k) (held at (now (latches .entry))) read (now (words .entry)) (now (cells .entry)) (o .number) (held (o .counter) (now (latches .exit))) (o .read) (now (words .exit)) (now (cells .exit)) ⌝ }
 {
-    let at = 3 * k;
-    perform(d, stream[at], payload_at(stream, at), r, read, words, cells)
+    let first = 3 * k;
+    perform(
+        d,
+        stream[first],
+        payload_at(stream, first),
+        at,
+        read,
+        latches,
+        words,
+        cells,
+    )
 }
 
 fn payload_at(stream: &[u8], at: usize) -> u16

@@ -4,21 +4,19 @@ use mathlib.Core.Path.{_≡_, refl, _∙_}
 use native.Mathlib.Omega.{arith}
 use lib.ListN.{length}
 use borrow.Author.Needs.{needs}
+use Rattle.target.specs.LawsStep.{held}
 use Rattle.target.specs.LawsRun.{Going, going-none, going-more, going-stops, going-ends, reads-within}
 use Rattle.target.proofs.trial.go.Statement.{statement}
 use Rattle.target.proofs.trial.go.Tie as tie
 
 abbrev Inv-loop : tie.InvT-loop
-Inv-loop d cells₀ stream steps words₀ registers₀ read₀ done₀ cells words registers read done = (done ≤ steps) × (read ≤ length words) × (length cells ≡ length cells₀) × (length words ≡ length words₀) × Going d stream words₀ cells₀ done registers read words cells
+Inv-loop d cells₀ stream steps words₀ counter₀ latches₀ read₀ done₀ cells words counter latches read done = (done ≤ steps) × (read ≤ length words) × (length cells ≡ length cells₀) × (length words ≡ length words₀) × Going d stream words₀ cells₀ done (held counter latches) read words cells
 
 abbrev μ-loop : tie.MeasureT-loop
-μ-loop d cells₀ stream steps words₀ registers₀ read₀ done₀ cells words registers read done = steps - done
-
-enter-requires : tie.Need-enter-requires Inv-loop μ-loop
-enter-requires c κs = search needs
+μ-loop d cells₀ stream steps words₀ counter₀ latches₀ read₀ done₀ cells words counter latches read done = steps - done
 
 loop-holds : tie.Need-loop-holds Inv-loop μ-loop
-loop-holds c = (search needs, search needs, refl, refl, going-none _ _ _ _ _ (c .enter .ensures))
+loop-holds c = (search needs, search needs, refl, refl, going-none _ _ _ _ _ refl)
 
 next-step-requires : tie.Need-next-step-requires Inv-loop μ-loop
 next-step-requires c κs = (c .before .before .before .before .before .before .before .before .pre .0, (omega arith, omega arith, omega arith))
@@ -30,7 +28,7 @@ same-length-2 : tie.Need-same-length-2 Inv-loop μ-loop
 same-length-2 c = search needs
 
 returns : tie.Need-returns Inv-loop μ-loop
-returns c = going-stops _ _ _ _ _ _ _ _ _ (c .before .before .before .before .before .before .before .before .before .loop .inv .4) _ _ _ _ _ (c .before .before .before .before .before .next-step .ensures) (c .if1 .taken) _ (c .before .before .before .before .before .before .before .before .loop-test .taken)
+returns c = going-stops _ _ _ _ _ _ _ _ _ (c .before .before .before .before .before .before .before .before .before .before .loop .inv .4) _ _ _ _ _ (c .before .before .before .before .before .next-step .ensures) (c .if1 .taken) _ (c .before .before .before .before .before .before .before .before .before .loop-test .taken)
 
 add-done : tie.Need-add-done Inv-loop μ-loop
 add-done c = omega arith
@@ -39,7 +37,7 @@ loop-less : tie.Need-loop-less Inv-loop μ-loop
 loop-less c = omega arith
 
 loop-again : tie.Need-loop-again Inv-loop μ-loop
-loop-again c = (omega arith, omega (arith, reads-within _ _ _ _ _ (c .before .before .before .before .before .before .before .before .before .before .loop .inv .1) _ _ _ _ _ _ (c .before .before .before .before .before .before .next-step .ensures) (c .before .if1 .left), c .before .before .before .before .before .before .next-step .kept .1 .1 .1 .1 .1 .0), c .before .before .before .before .before .before .next-step .kept .1 .1 .1 .1 .1 .1 .0 ∙ c .before .before .before .before .before .before .before .before .before .before .loop .inv .2, c .before .before .before .before .before .before .next-step .kept .1 .1 .1 .1 .1 .0 ∙ c .before .before .before .before .before .before .before .before .before .before .loop .inv .3, going-more _ _ _ _ _ _ _ _ _ (c .before .before .before .before .before .before .before .before .before .before .loop .inv .4) _ _ _ _ _ (c .before .before .before .before .before .before .next-step .ensures) (c .before .if1 .left))
+loop-again c = (omega arith, omega (arith, reads-within _ _ _ _ _ (c .before .before .before .before .before .before .before .before .before .before .before .loop .inv .1) _ _ _ _ _ _ (c .before .before .before .before .before .before .next-step .ensures) (c .before .if1 .left), c .before .before .before .before .before .before .next-step .kept .1 .1 .1 .1 .1 .1 .0), c .before .before .before .before .before .before .next-step .kept .1 .1 .1 .1 .1 .1 .1 .0 ∙ c .before .before .before .before .before .before .before .before .before .before .before .loop .inv .2, c .before .before .before .before .before .before .next-step .kept .1 .1 .1 .1 .1 .1 .0 ∙ c .before .before .before .before .before .before .before .before .before .before .before .loop .inv .3, going-more _ _ _ _ _ _ _ _ _ (c .before .before .before .before .before .before .before .before .before .before .before .loop .inv .4) _ _ _ _ _ (c .before .before .before .before .before .before .next-step .ensures) (c .before .if1 .left))
 
 same-length-3 : tie.Need-same-length-3 Inv-loop μ-loop
 same-length-3 c = c .before .loop .inv .2
@@ -56,7 +54,6 @@ go-spec =
     (tie.spec
     Inv-loop
     μ-loop
-    enter-requires
     loop-holds
     next-step-requires
     same-length

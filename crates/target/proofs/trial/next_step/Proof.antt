@@ -4,8 +4,8 @@ use borrow.Author.Needs.{needs}
 use Rattle.target.proofs.trial.next_step.Statement.{statement}
 use Rattle.target.proofs.trial.next_step.Tie as tie
 
-mul-at : tie.Need-mul-at
-mul-at c = search needs
+mul-first : tie.Need-mul-first
+mul-first c = search needs
 
 shared-slice-read-perform : tie.Need-shared-slice-read-perform
 shared-slice-read-perform c = search needs
@@ -23,13 +23,13 @@ same-length-2 : tie.Need-same-length-2
 same-length-2 c = search needs
 
 returns : tie.Need-returns
-returns c = step-is _ _ _ _ _ _ _ _ (c .before .before .before .before .before .before .before .payload-at .ensures) _ _ _ _ _ (c .before .before .before .before .perform .ensures)
+returns c = step-is _ _ _ _ _ _ _ _ (c .before .before .before .before .before .before .before .before .payload-at .ensures) _ _ _ _ _ (c .before .before .before .before .perform .ensures)
 
 pub next-step-spec : {M : Type 1} → statement M
 next-step-spec =
     tie.close
     (tie.spec
-    mul-at
+    mul-first
     shared-slice-read-perform
     payload-at-requires
     perform-requires
