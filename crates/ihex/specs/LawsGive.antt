@@ -20,7 +20,8 @@ use Rattle.words.specs.LawsLists.{in-range, below-range, above-range}
 use Rattle.device.specs.Memory.{readingTail}
 use Rattle.ihex.specs.Line.{countOf}
 use Rattle.ihex.specs.Reader.{wordOf, byteAddress, entryAt, entryOfWord, canGive, wordNumber, Reading, giveWords}
-use Rattle.ihex.specs.LawsLine.{ByteRead, OffsetRead}
+use Rattle.ihex.specs.LawsLine.{OffsetRead}
+use Rattle.ihex.specs.LawsDecode.{OffsetOf, Sound, sound-count, sound-offset, sound-word}
 
 -- where a reading stands, by its four values
 abbrev pub reading : Bool → ℕ → List ℕ → ℕ → Reading
@@ -33,10 +34,6 @@ getD-default (x ∷ l) zero d e h = refl
 getD-default (x ∷ l) (suc i) d e h = getD-default l i d e (omega arith)
 
 -- ---- a word, and where it goes
-
-pub word-read : (line : List ℕ) (j low high : ℕ) → ByteRead line (4 + 2 * j) low → ByteRead line (5 + 2 * j) high → low + 256 * high ≡ wordOf line j
-unfolding wordOf
-word-read line j low high p q = rw (p .value, q .value)
 
 pub address-read : (upper : ℕ) (line : List ℕ) (offset j : ℕ) → OffsetRead line offset → _≡_ {A = ByteAddress} (record { 0 = upper * 65536 + offset + 2 * j }) (byteAddress upper line j)
 unfolding byteAddress
@@ -112,64 +109,71 @@ module _ (words upper : ℕ) (line image : List ℕ) where
 
 -- ---- the loop over a record's words
 
-count-half : (line : List ℕ) (count : ℕ) → ByteRead line 0 count → count / 2 ≡ countOf line / 2
-unfolding countOf
-count-half line count c = rw (c .value)
+-- what giving words comes to, whatever line the bytes are those of
+abbrev pub Gives : (words upper : ℕ) → (bytes image₀ image : List ℕ) → ℕ → Type 0
+Gives words upper bytes image₀ image number =
+    (line : List ℕ) → Sound line bytes → reading false upper image number ≡ giveWords words upper line image₀ 0 (countOf line / 2)
 
 -- j of n words are given
-pub record Giving (words upper : ℕ) (line image₀ : List ℕ) (offset n : ℕ) (image : List ℕ) (j : ℕ) : Type 0 where
+pub record Giving (words upper : ℕ) (bytes image₀ : List ℕ) (offset n : ℕ) (image : List ℕ) (j : ℕ) : Type 0 where
   pub within : j ≤ n
-  pub few : n ≤ 128
+  pub few : n < 128
+  pub size : n ≡ getD bytes 0 0 / 2
   pub long : length image ≡ words + 9
   pub kept : length image ≡ length image₀
-  pub start : OffsetRead line offset
-  pub rest : giveWords words upper line image j (n - j) ≡ giveWords words upper line image₀ 0 (countOf line / 2)
+  pub start : OffsetOf bytes offset
+  pub rest : (line : List ℕ) → Sound line bytes → giveWords words upper line image j (n - j) ≡ giveWords words upper line image₀ 0 (countOf line / 2)
 
-module _ (words upper : ℕ) (line image₀ : List ℕ) (offset : ℕ) where
-  pub giving-none : (count : ℕ) → OffsetRead line offset → ByteRead line 0 count → length image₀ ≡ words + 9 → Giving words upper line image₀ offset (count / 2) image₀ 0
-  giving-none count o c l =
-      let all : count / 2 - 0 ≡ count / 2 = omega arith in
+module _ (words upper : ℕ) (bytes image₀ : List ℕ) (offset : ℕ) where
+  pub giving-none : OffsetOf bytes offset → getD bytes 0 0 < 256 → length image₀ ≡ words + 9 → Giving words upper bytes image₀ offset (getD bytes 0 0 / 2) image₀ 0
+  giving-none o c l =
+      let all : getD bytes 0 0 / 2 - 0 ≡ getD bytes 0 0 / 2 = omega arith in
       record {
         within = omega arith;
         few = omega arith;
+        size = refl;
         long = l;
         kept = refl;
         start = o;
-        rest = rw (all, count-half line count c);
+        rest = λ line s. rw (all, sound-count line bytes s);
       }
 
-  module _ (n : ℕ) (image : List ℕ) (j : ℕ) (g : Giving words upper line image₀ offset n image j) where
-    pub giving-all : n ≤ j → reading false upper image 0 ≡ giveWords words upper line image₀ 0 (countOf line / 2)
-    giving-all h = sym (give-none words upper line image j n h) ∙ g .rest
+  module _ (n : ℕ) (image : List ℕ) (j : ℕ) (g : Giving words upper bytes image₀ offset n image j) where
+    pub giving-all : n ≤ j → Gives words upper bytes image₀ image 0
+    giving-all h line s = sym (give-none words upper line image j n h) ∙ g .rest line s
 
     module _ (left : j < n) (b : ByteAddress) (eb : b ≡ record { 0 = upper * 65536 + offset + 2 * j }) (p : Place) (ep : p ≡ halved b) (entry : ℕ) (e : entry ≡ entryAt words p) where
-      at : entry ≡ entryOfWord words upper line j
-      at = entry-read words upper line offset j entry b p (g .start) eb ep e
+      at : (line : List ℕ) → Sound line bytes → entry ≡ entryOfWord words upper line j
+      at line s = entry-read words upper line offset j entry b p (sound-offset line bytes s offset (g .start)) eb ep e
 
       module _ (can : Bool) (ec : can ≡ canGive words entry) where
-        pub giving-7 : can ≡ false → reading false upper image 7 ≡ giveWords words upper line image₀ 0 (countOf line / 2)
-        giving-7 f = sym (turn-7 words upper line image j n left entry at (sym ec ∙ f)) ∙ g .rest
+        pub giving-7 : can ≡ false → Gives words upper bytes image₀ image 7
+        giving-7 f line s = sym (turn-7 words upper line image j n left entry (at line s) (sym ec ∙ f)) ∙ g .rest line s
 
         module _ (t : can ≡ true) where
           pub entry-lt : entry < length image
           entry-lt = rw (g .long) (can-give-lt words entry (sym ec ∙ t))
 
-          module _ (word : ℕ) (w : word ≡ wordOf line j) where
-            pub giving-8 : 0x4000 ≤ word → reading false upper image 8 ≡ giveWords words upper line image₀ 0 (countOf line / 2)
-            giving-8 h = sym (turn-8 words upper line image j n left entry at (sym ec ∙ t) word w h) ∙ g .rest
+          module _ (word : ℕ) (w : word ≡ getD bytes (4 + 2 * j) 0 + 256 * getD bytes (5 + 2 * j) 0) where
+            is : (line : List ℕ) → Sound line bytes → word ≡ wordOf line j
+            is line s = sound-word line bytes s j word (rw (g .size) at left) w
+
+            pub giving-8 : 0x4000 ≤ word → Gives words upper bytes image₀ image 8
+            giving-8 h line s = sym (turn-8 words upper line image j n left entry (at line s) (sym ec ∙ t) word (is line s) h) ∙ g .rest line s
 
             module _ (low : word < 0x4000) where
-              pub giving-9 : (getD image entry 0 ≡ notGiven → ⊥) → reading false upper image 9 ≡ giveWords words upper line image₀ 0 (countOf line / 2)
-              giving-9 h = sym (turn-9 words upper line image j n left entry at (sym ec ∙ t) word w low entry-lt h) ∙ g .rest
+              pub giving-9 : (getD image entry 0 ≡ notGiven → ⊥) → Gives words upper bytes image₀ image 9
+              giving-9 h line s = sym (turn-9 words upper line image j n left entry (at line s) (sym ec ∙ t) word (is line s) low entry-lt h) ∙ g .rest line s
 
-              pub giving-on : getD image entry 0 ≡ notGiven → Giving words upper line image₀ offset n (set image entry word) (j + 1)
+              pub giving-on : getD image entry 0 ≡ notGiven → Giving words upper bytes image₀ offset n (set image entry word) (j + 1)
               giving-on h =
                   let same : length (set image entry word) ≡ length image = length-set image entry word in
                   record {
                     within = omega arith;
                     few = g .few;
+                    size = g .size;
                     long = same ∙ g .long;
                     kept = same ∙ g .kept;
                     start = g .start;
-                    rest = sym (turn-on words upper line image j n left entry at (sym ec ∙ t) word w low entry-lt h) ∙ g .rest;
+                    rest = λ line s. sym (turn-on words upper line image j n left entry (at line s) (sym ec ∙ t) word (is line s) low entry-lt h) ∙ g .rest line s;
                   }

@@ -72,18 +72,9 @@ pub record ByteRead (line : List ℕ) (j r : ℕ) : Type 0 where
   pub value : r ≡ byteAt line j
   pub most : r ≤ 256
 
-pub byte-at : (line : List ℕ) (j r : ℕ) → r ≡ byteBy digitOf line (1 + 2 * j) → ByteRead line j r
-byte-at line j r e =
-    let v : r ≡ byteAt line j = (unfold byteAt in e) in
-    record { value = v; most = rw v (byte-most line j) }
-
 pub record OffsetRead (line : List ℕ) (r : ℕ) : Type 0 where
   pub value : r ≡ offsetOf line
   pub most : r ≤ 65792
-
-pub offset-read : (line : List ℕ) (a b : ℕ) → ByteRead line 1 a → ByteRead line 2 b → OffsetRead line (256 * a + b)
-unfolding offsetOf
-offset-read line a b p q = record { value = rw (p .value, q .value); most = omega arith }
 
 -- ---- all bytes and their sum
 

@@ -4,6 +4,7 @@ pub mod Lines
 pub mod Reader
 pub mod Writer
 pub mod LawsLine
+pub mod LawsDecode
 pub mod LawsGive
 pub mod LawsReader
 pub mod LawsNext

@@ -1,5 +1,4 @@
 // The words of a data record, given to an image one after another.
-use crate::line::byte_at;
 use crate::line::offset_of;
 use words::ByteAddress;
 use words::CONFIG_BASE;
@@ -9,40 +8,42 @@ use words::WORD_LIMIT;
 use words::WordAddress;
 ghost use mathlib.Core.Path.{_≡_};
 ghost use mathlib.Core.Bool.{false};
-ghost use Prim.Native.Nat.{_+_, _*_, _/_, _≤_, _<_};
-ghost use lib.ListN.{length};
+ghost use mathlib.Core.List.{List};
+ghost use Prim.Native.Nat.{ℕ, _+_, _*_, _/_, _<_};
+ghost use lib.ListN.{length, getD};
 ghost use Rattle.ihex.specs.Line.{countOf};
-ghost use Rattle.ihex.specs.Reader.{wordOf, entryAt, canGive, giveWords};
+ghost use Rattle.ihex.specs.Reader.{entryAt, canGive, giveWords};
+ghost use Rattle.ihex.specs.LawsDecode.{Sound};
 ghost use Rattle.ihex.specs.LawsGive.{reading};
 
-// Gives words until one is refused: 0, or the first of 7, 8, 9 that holds.
-pub(crate) fn give_words(words: u16, upper: u32, line: &[u8], image: &mut [u16]) -> u8
-    requires { ⌜ length (now image) ≡ words + 9 ⌝ }
-    ensures { λ r. ⌜ reading false upper (now (image .exit)) r ≡ giveWords words upper (now (line .entry)) (now (image .entry)) 0 (countOf (now (line .entry)) / 2) ⌝ }
+// Gives words until one is refused: 0, or the first of 7, 8, 9 that holds. It holds of every line that these are the bytes of.
+pub(crate) fn give_words(words: u16, upper: u32, bytes: &[u8], image: &mut [u16]) -> u8
+    requires { ⌜ (length (now bytes) ≡ 260) × (length (now image) ≡ words + 9) ⌝ }
+    ensures { λ r. ⌜ ((line : List ℕ) → Sound line (now (bytes .entry)) → reading false upper (now (image .exit)) r ≡ giveWords words upper line (now (image .entry)) 0 (countOf line / 2)) ⌝ }
 {
-    let offset = offset_of(line);
-    let n = byte_at(line, 0) / 2;
-    let mut j: u16 = 0;
+    let offset = offset_of(bytes);
+    let n = bytes[0] / 2;
+    let mut j: u8 = 0;
     while j < n {
         let entry = entry_at(words, words::address::halve(byte_address(upper, offset, j)));
         if can_give(words, entry) {} else {
             return 7;
         }
-        let word = word_of(line, j);
-        if (WORD_LIMIT as u32) <= word {
+        let word = word_of(bytes, j);
+        if WORD_LIMIT <= word {
             return 8;
         }
         if image[entry] != NOT_GIVEN {
             return 9;
         }
-        image[entry] = word as u16;
+        image[entry] = word;
         j += 1;
     }
     0
 }
 
 // The address of the first byte of word j, where nothing wraps at 64 KiB.
-fn byte_address(upper: u32, offset: u32, j: u16) -> ByteAddress
+fn byte_address(upper: u32, offset: u32, j: u8) -> ByteAddress
     ensures { λ r. ⌜ r ≡ record { 0 = upper * 65536 + offset + 2 * j } ⌝ }
 {
     ByteAddress((upper as u64) * 65536 + (offset as u64) + 2 * (j as u64))
@@ -72,12 +73,13 @@ fn can_give(words: u16, entry: usize) -> bool
     program + 7 <= entry
 }
 
-// Word j of a record, low byte first.
-fn word_of(line: &[u8], j: u16) -> u32
-    requires { ⌜ j < 128 ⌝ }
-    ensures { λ r. ⌜ r ≡ wordOf (now (line .entry)) j ⌝ }
+// Word j of a record's bytes, low byte first.
+fn word_of(bytes: &[u8], j: u8) -> u16
+    requires { ⌜ (length (now bytes) ≡ 260) × (j < 128) ⌝ }
+    ensures { λ r. ⌜ r ≡ getD (now (bytes .entry)) (4 + 2 * j) 0 + 256 * getD (now (bytes .entry)) (5 + 2 * j) 0 ⌝ }
 {
-    let low = byte_at(line, 4 + 2 * j);
-    let high = byte_at(line, 5 + 2 * j);
-    (low as u32) + 256 * (high as u32)
+    let at = 2 * (j as usize);
+    let low = bytes[4 + at];
+    let high = bytes[5 + at];
+    (low as u16) + 256 * (high as u16)
 }

@@ -1,8 +1,11 @@
 // One line of HEX text: its end, its bytes, and whether it is a sound record.
 ghost use mathlib.Core.Path.{_≡_};
-ghost use Prim.Native.Nat.{_≤_, _<_};
-ghost use Rattle.ihex.specs.Line.{lineNumber};
-ghost use Rattle.ihex.specs.LawsLine.{Ended, ByteRead, OffsetRead, sumRead, kindNumber};
+ghost use Prim.Native.Nat.{_+_, _*_, _≤_};
+ghost use lib.ListN.{length};
+ghost use Rattle.words.specs.Lists.{build};
+ghost use Rattle.words.specs.Hex.{digitOf};
+ghost use Rattle.ihex.specs.LawsLine.{Ended, ByteRead, kindNumber};
+ghost use Rattle.ihex.specs.LawsDecode.{OffsetOf, Decoded, Judged};
 
 const CR: u8 = 13;
 
@@ -20,9 +23,10 @@ pub(crate) fn line_end(piece: &[u8]) -> usize
     n
 }
 
-// 0 for a sound record, or the first of 2 to 6 that holds.
-pub(crate) fn judge_line(line: &[u8]) -> u8
-    ensures { λ r. ⌜ r ≡ lineNumber (now (line .entry)) ⌝ }
+// 0 for a sound record, whose bytes are then decoded, or the first of 2 to 6 that holds.
+pub(crate) fn judge_line(digits: &[u8; 256], line: &[u8], bytes: &mut [u8]) -> u8
+    requires { ⌜ (now digits ≡ build 256 digitOf) × (length (now bytes) ≡ 260) ⌝ }
+    ensures { λ r. ⌜ Judged (now (line .entry)) r (now (bytes .exit)) ⌝ }
 {
     if line.len() == 0 {
         return 2;
@@ -30,60 +34,81 @@ pub(crate) fn judge_line(line: &[u8]) -> u8
     if line[0] != b':' {
         return 2;
     }
-    let count = byte_at(line, 0);
+    let count = count_of(digits, line);
     if 256 <= count {
         return 2;
     }
-    if line.len() != 1 + 2 * ((count as usize) + 5) {
+    let n = (count as usize) + 5;
+    if line.len() != 1 + 2 * n {
         return 2;
     }
-    let sum = sum_of(line, count + 5);
+    let sum = decode(digits, line, n, bytes);
     if 256 <= sum {
         return 2;
     }
     if sum != 0 {
         return 3;
     }
-    judge_kind(byte_at(line, 3), offset_of(line), count)
+    judge_kind(bytes[3], offset_of(bytes), count)
 }
 
-// Byte j after the colon; 256 where two digits do not stand there.
-pub(crate) fn byte_at(line: &[u8], j: u16) -> u16
-    requires { ⌜ j < 260 ⌝ }
-    ensures { λ r. ⌜ ByteRead (now (line .entry)) j r ⌝ }
+// The value of a character as a hex digit, from a table that stays where it is.
+fn digit(digits: &[u8; 256], c: u8) -> u8
+    requires { ⌜ now digits ≡ build 256 digitOf ⌝ }
+    ensures { λ r. ⌜ r ≡ digitOf c ⌝ }
 {
-    words::hex::byte(line, 1 + 2 * (j as usize))
+    digits[c as usize]
 }
 
-// The address of a record's first byte within its 64 KiB.
-pub(crate) fn offset_of(line: &[u8]) -> u32
-    ensures { λ r. ⌜ OffsetRead (now (line .entry)) r ⌝ }
+// The first byte after the colon; 256 where two digits do not stand there.
+fn count_of(digits: &[u8; 256], line: &[u8]) -> u16
+    requires { ⌜ now digits ≡ build 256 digitOf ⌝ }
+    ensures { λ r. ⌜ ByteRead (now (line .entry)) 0 r ⌝ }
 {
-    let high = byte_at(line, 1);
-    let low = byte_at(line, 2);
-    256 * (high as u32) + (low as u32)
+    if line.len() < 3 {
+        return 256;
+    }
+    let high = digit(digits, line[1]);
+    let low = digit(digits, line[2]);
+    if 16 <= high | low {
+        return 256;
+    }
+    16 * (high as u16) + (low as u16)
 }
 
-// The first n bytes added up mod 256; 256 if one of them is not two digits.
-fn sum_of(line: &[u8], n: u16) -> u16
-    requires { ⌜ n ≤ 260 ⌝ }
-    ensures { λ r. ⌜ r ≡ sumRead n (now (line .entry)) ⌝ }
+// Decodes the n bytes after the colon. Answers their sum mod 256; 256 if one of them is not two digits.
+fn decode(digits: &[u8; 256], line: &[u8], n: usize, bytes: &mut [u8]) -> u16
+    requires { ⌜ (now digits ≡ build 256 digitOf) × (n ≤ 260) × (length (now line) ≡ 1 + 2 * n) × (length (now bytes) ≡ 260) ⌝ }
+    ensures { λ r. ⌜ Decoded (now (line .entry)) n r (now (bytes .exit)) ⌝ }
 {
     let mut sum: u32 = 0;
-    let mut j: u16 = 0;
+    let mut j = 0;
     while j < n {
-        let b = byte_at(line, j);
-        if 256 <= b {
+        let high = digit(digits, line[1 + 2 * j]);
+        let low = digit(digits, line[2 + 2 * j]);
+        if 16 <= high | low {
             return 256;
         }
+        let b = 16 * high + low;
+        bytes[j] = b;
         sum += b as u32;
         j += 1;
     }
     (sum % 256) as u16
 }
 
+// The address of a record's first byte within its 64 KiB.
+pub(crate) fn offset_of(bytes: &[u8]) -> u32
+    requires { ⌜ length (now bytes) ≡ 260 ⌝ }
+    ensures { λ r. ⌜ OffsetOf (now (bytes .entry)) r ⌝ }
+{
+    let high = bytes[1];
+    let low = bytes[2];
+    256 * (high as u32) + (low as u32)
+}
+
 // 0, or the first of 4, 5, 6 that type, address and count give.
-fn judge_kind(kind: u16, offset: u32, count: u16) -> u8
+fn judge_kind(kind: u8, offset: u32, count: u16) -> u8
     ensures { λ r. ⌜ r ≡ kindNumber kind offset count ⌝ }
 {
     if kind == 0 {

@@ -39,11 +39,13 @@ pub fn read_hex(d: Device, text: &[u8], image: &mut [u16]) -> ReadHex
     r
 }
 
-// The lines of a text until one is refused; 10 if no end record came.
+// The lines of a text until one is refused, with one table and one record's bytes for all of them; 10 if no end record came.
 fn read_lines(words: u16, text: &[u8], image: &mut [u16]) -> ReadHex
     requires { ⌜ (length (now image) ≡ words + 9) × (length (now text) ≤ mostText) ⌝ }
     ensures { λ r. ⌜ LinesRead words (now (text .entry)) (now (image .entry)) (r .number) (r .line) (now (image .exit)) ⌝ }
 {
+    let digits = words::hex::digits();
+    let mut bytes = [0u8; 260];
     let mut at = 0;
     let mut line: u32 = 0;
     let mut ended = false;
@@ -51,7 +53,15 @@ fn read_lines(words: u16, text: &[u8], image: &mut [u16]) -> ReadHex
     while at < text.len() {
         let next = line_from(text, at, line);
         let stop = next.stop;
-        let s = take_piece(words, &text[at..stop], ended, upper, image);
+        let s = take_piece(
+            &digits,
+            words,
+            &text[at..stop],
+            ended,
+            upper,
+            &mut bytes,
+            image,
+        );
         line = next.line;
         if s.number != 0 {
             return ReadHex {

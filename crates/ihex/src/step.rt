@@ -1,14 +1,17 @@
 // What one line does to a reading.
 use crate::give::give_words;
-use crate::line::byte_at;
 use crate::line::judge_line;
 use crate::line::line_end;
 ghost use mathlib.Core.Path.{_≡_};
 ghost use mathlib.Core.Bool.{false};
-ghost use Prim.Native.Nat.{_+_};
+ghost use mathlib.Core.List.{List};
+ghost use Prim.Native.Nat.{ℕ, _+_};
 ghost use lib.ListN.{length};
+ghost use Rattle.words.specs.Lists.{build};
+ghost use Rattle.words.specs.Hex.{digitOf};
 ghost use Rattle.ihex.specs.Line.{withoutCr};
 ghost use Rattle.ihex.specs.Reader.{recordStep, lineStep};
+ghost use Rattle.ihex.specs.LawsDecode.{Sound};
 ghost use Rattle.ihex.specs.LawsGive.{reading};
 
 // Where a reading stands after a line: the end record was seen, the upper half, and a refusal or 0.
@@ -20,22 +23,32 @@ pub(crate) struct Step {
 
 // One line with the CR that may belong to its end.
 pub(crate) fn take_piece(
+    digits: &[u8; 256],
     words: u16,
     piece: &[u8],
     ended: bool,
     upper: u32,
+    bytes: &mut [u8],
     image: &mut [u16],
 ) -> Step
-    requires { ⌜ length (now image) ≡ words + 9 ⌝ }
+    requires { ⌜ (now digits ≡ build 256 digitOf) × (length (now bytes) ≡ 260) × (length (now image) ≡ words + 9) ⌝ }
     ensures { λ r. ⌜ reading (r .ended) (r .upper) (now (image .exit)) (r .number) ≡ lineStep words (withoutCr (now (piece .entry))) (reading ended upper (now (image .entry)) 0) ⌝ }
 {
     let n = line_end(piece);
-    take_line(words, &piece[..n], ended, upper, image)
+    take_line(digits, words, &piece[..n], ended, upper, bytes, image)
 }
 
 // One line: an empty one is skipped, after the end record any other is refused.
-fn take_line(words: u16, line: &[u8], ended: bool, upper: u32, image: &mut [u16]) -> Step
-    requires { ⌜ length (now image) ≡ words + 9 ⌝ }
+fn take_line(
+    digits: &[u8; 256],
+    words: u16,
+    line: &[u8],
+    ended: bool,
+    upper: u32,
+    bytes: &mut [u8],
+    image: &mut [u16],
+) -> Step
+    requires { ⌜ (now digits ≡ build 256 digitOf) × (length (now bytes) ≡ 260) × (length (now image) ≡ words + 9) ⌝ }
     ensures { λ r. ⌜ reading (r .ended) (r .upper) (now (image .exit)) (r .number) ≡ lineStep words (now (line .entry)) (reading ended upper (now (image .entry)) 0) ⌝ }
 {
     if line.len() == 0 {
@@ -52,7 +65,7 @@ fn take_line(words: u16, line: &[u8], ended: bool, upper: u32, image: &mut [u16]
             number: 11,
         };
     }
-    let number = judge_line(line);
+    let number = judge_line(digits, line, bytes);
     if number != 0 {
         return Step {
             ended,
@@ -60,17 +73,17 @@ fn take_line(words: u16, line: &[u8], ended: bool, upper: u32, image: &mut [u16]
             number,
         };
     }
-    take_record(words, line, upper, image)
+    take_record(words, bytes, upper, image)
 }
 
-// A sound record: data gives its words, the end is noted, an upper half is kept for what follows.
-fn take_record(words: u16, line: &[u8], upper: u32, image: &mut [u16]) -> Step
-    requires { ⌜ length (now image) ≡ words + 9 ⌝ }
-    ensures { λ r. ⌜ reading (r .ended) (r .upper) (now (image .exit)) (r .number) ≡ recordStep words (now (line .entry)) (reading false upper (now (image .entry)) 0) ⌝ }
+// A sound record, whatever line it was decoded from: data gives its words, the end is noted, an upper half is kept for what follows.
+fn take_record(words: u16, bytes: &[u8], upper: u32, image: &mut [u16]) -> Step
+    requires { ⌜ (length (now bytes) ≡ 260) × (length (now image) ≡ words + 9) ⌝ }
+    ensures { λ r. ⌜ ((line : List ℕ) → Sound line (now (bytes .entry)) → reading (r .ended) (r .upper) (now (image .exit)) (r .number) ≡ recordStep words line (reading false upper (now (image .entry)) 0)) ⌝ }
 {
-    let kind = byte_at(line, 3);
+    let kind = bytes[3];
     if kind == 0 {
-        let given = give_words(words, upper, line, image);
+        let given = give_words(words, upper, bytes, image);
         return Step {
             ended: false,
             upper,
@@ -84,8 +97,8 @@ fn take_record(words: u16, line: &[u8], upper: u32, image: &mut [u16]) -> Step
             number: 0,
         };
     }
-    let high = byte_at(line, 4);
-    let low = byte_at(line, 5);
+    let high = bytes[4];
+    let low = bytes[5];
     Step {
         ended: false,
         upper: 256 * (high as u32) + (low as u32),

@@ -7,6 +7,7 @@ use Rattle.words.proofs.address.halve.Reads as halve
 use Rattle.words.proofs.address.entry_of.Reads as entry-of
 use Rattle.words.proofs.address.address_of.Reads as address-of
 use Rattle.words.proofs.hex.digit.Reads as digit
+use Rattle.words.proofs.hex.digits.Reads as digits
 use Rattle.words.proofs.hex.capital.Reads as capital
 use Rattle.words.proofs.hex.byte.Reads as byte
 use Rattle.words.proofs.hex.word.Reads as word
@@ -32,6 +33,9 @@ address-of-determined κs a r s x y p q = determined p q
 
 pub digit-determined : (κs : _) (a : _) (r s : _) (x y : _) → digit.Post κs a r x → digit.Post κs a s y → r ≡ s
 digit-determined κs a r s x y p q = determined p q
+
+pub digits-determined : (κs : _) (a : _) (r s : _) (x y : _) → digits.Post κs a r x → digits.Post κs a s y → r ≡ s
+digits-determined κs a r s x y p q = determined p q
 
 pub capital-determined : (κs : _) (a : _) (r s : _) (x y : _) → capital.Post κs a r x → capital.Post κs a s y → r ≡ s
 capital-determined κs a r s x y p q = determined p q

@@ -4,6 +4,7 @@ ghost use mathlib.Core.Path.{_≡_};
 ghost use Prim.Native.Nat.{_≤_, _<_};
 ghost use lib.ListN.{set};
 ghost use lib.Seq.{sets};
+ghost use Rattle.words.specs.Lists.{build};
 ghost use Rattle.words.specs.Hex.{digitOf, capitalOf, byteBy, wordBy, joined, digitText, byteText, wordText};
 
 // The value of a hex digit of either case; 16 for any other character.
@@ -11,6 +12,13 @@ pub fn digit(c: u8) -> u8
     ensures { λ r. ⌜ r ≡ digitOf c ⌝ }
 {
     DIGITS[c as usize]
+}
+
+// The value of every character as a hex digit of either case, 16 for those that are none: a table to look many up in.
+pub fn digits() -> [u8; 256]
+    ensures { λ r. ⌜ r ≡ build 256 digitOf ⌝ }
+{
+    DIGITS
 }
 
 // The value of a digit 0-9 or A-F; 16 for any other character.

@@ -1,25 +1,25 @@
 -- What is left of the record's words gives the rest.
-use native.Mathlib.Omega.{arith}
-use Prim.Native.Nat.{_-_}
 use Rattle.ihex.specs.LawsGive.{Giving, giving-none, giving-all, giving-7, giving-8, giving-9, giving-on, entry-lt}
+use Prim.Native.Nat.{_-_}
 use borrow.Author.Needs.{needs}
+use native.Mathlib.Omega.{arith}
 use Rattle.ihex.proofs.give.give_words.Statement.{statement}
 use Rattle.ihex.proofs.give.give_words.Tie as tie
 
 abbrev Inv-loop : tie.InvT-loop
-Inv-loop words upper line image₀ offset n j₀ image j = Giving words upper line image₀ offset n image j
+Inv-loop words upper bytes image₀ offset n j₀ image j = Giving words upper bytes image₀ offset n image j
 
 abbrev μ-loop : tie.MeasureT-loop
-μ-loop words upper line image₀ offset n j₀ image j = n - j
+μ-loop words upper bytes image₀ offset n j₀ image j = n - j
 
 offset-of-requires : tie.Need-offset-of-requires Inv-loop μ-loop
-offset-of-requires c κs = search needs
+offset-of-requires c κs = c .before .before .pre .0
 
-byte-at-requires : tie.Need-byte-at-requires Inv-loop μ-loop
-byte-at-requires c κs = omega arith
+shared-slice-read-n : tie.Need-shared-slice-read-n Inv-loop μ-loop
+shared-slice-read-n c = omega (arith, c .before .before .before .before .pre .0)
 
 loop-holds : tie.Need-loop-holds Inv-loop μ-loop
-loop-holds c = giving-none _ _ _ _ _ _ (c .before .offset-of .ensures) (c .byte-at .ensures) (c .before .before .before .before .pre)
+loop-holds c = giving-none _ _ _ _ _ (c .before .offset-of .ensures) (omega (arith, c .before .before .before .shared-slice-known .given 0)) (c .before .before .before .before .pre .1)
 
 byte-address-requires : tie.Need-byte-address-requires Inv-loop μ-loop
 byte-address-requires c κs = search needs
@@ -40,10 +40,7 @@ returns : tie.Need-returns Inv-loop μ-loop
 returns c = giving-7 _ _ _ _ _ _ _ _ (c .before .before .before .before .before .before .loop .inv) (c .before .before .before .before .before .loop-test .taken) _ (c .before .before .before .before .byte-address .ensures) _ (c .before .before .before .halve .ensures) _ (c .before .before .entry-at .ensures) _ (c .before .can-give .ensures) (c .if1 .left)
 
 word-of-requires : tie.Need-word-of-requires Inv-loop μ-loop
-word-of-requires c κs = let g = c .before .before .before .before .before .before .loop .inv in omega arith
-
-cast-if2 : tie.Need-cast-if2 Inv-loop μ-loop
-cast-if2 c = omega arith
+word-of-requires c κs = let g = c .before .before .before .before .before .before .loop .inv in (c .before .before .before .before .before .before .before .before .before .before .before .pre .0, omega arith)
 
 same-length-2 : tie.Need-same-length-2 Inv-loop μ-loop
 same-length-2 c = c .before .before .before .before .before .before .before .before .loop .inv .kept
@@ -62,9 +59,6 @@ same-length-3 c = c .before .before .before .before .before .before .before .bef
 
 returns-3 : tie.Need-returns-3 Inv-loop μ-loop
 returns-3 c = giving-9 _ _ _ _ _ _ _ _ (c .before .before .before .before .before .before .before .before .before .before .loop .inv) (c .before .before .before .before .before .before .before .before .before .loop-test .taken) _ (c .before .before .before .before .before .before .before .before .byte-address .ensures) _ (c .before .before .before .before .before .before .before .halve .ensures) _ (c .before .before .before .before .before .before .entry-at .ensures) _ (c .before .before .before .before .before .can-give .ensures) (c .before .before .before .before .if1 .taken) _ (c .before .before .before .word-of .ensures) (c .before .before .if2 .left) (c .if3 .taken)
-
-cast-image : tie.Need-cast-image Inv-loop μ-loop
-cast-image c = omega arith
 
 mul-image : tie.Need-mul-image Inv-loop μ-loop
 mul-image c = let h = entry-lt _ _ _ _ _ _ _ _ (c .before .before .before .before .before .before .before .before .before .before .loop .inv) (c .before .before .before .before .before .before .before .before .before .loop-test .taken) _ (c .before .before .before .before .before .before .before .before .byte-address .ensures) _ (c .before .before .before .before .before .before .before .halve .ensures) _ (c .before .before .before .before .before .before .entry-at .ensures) _ (c .before .before .before .before .before .can-give .ensures) (c .before .before .before .before .if1 .taken) in let g = c .before .before .before .before .before .before .before .before .before .before .loop .inv in omega arith
@@ -94,7 +88,7 @@ give-words-spec =
     Inv-loop
     μ-loop
     offset-of-requires
-    byte-at-requires
+    shared-slice-read-n
     loop-holds
     byte-address-requires
     halve-requires
@@ -103,14 +97,12 @@ give-words-spec =
     same-length
     returns
     word-of-requires
-    cast-if2
     same-length-2
     returns-2
     mul-if3
     slice-read-if3
     same-length-3
     returns-3
-    cast-image
     mul-image
     slice-write-image
     add-j

@@ -1,52 +1,49 @@
 -- Low byte first.
-use Rattle.ihex.specs.LawsGive.{word-read}
+use Prim.Native.Nat.{_+_, _*_}
+use native.Mathlib.Omega.{arith}
 use borrow.Author.Needs.{needs}
 use Rattle.ihex.proofs.give.word_of.Statement.{statement}
 use Rattle.ihex.proofs.give.word_of.Tie as tie
 
-mul-byte-at : tie.Need-mul-byte-at
-mul-byte-at c = search needs
+mul-at : tie.Need-mul-at
+mul-at c = search needs
 
-add-byte-at : tie.Need-add-byte-at
-add-byte-at c = search needs
+add-low : tie.Need-add-low
+add-low c = search needs
 
-byte-at-requires : tie.Need-byte-at-requires
-byte-at-requires c κs = search needs
+shared-slice-read-low : tie.Need-shared-slice-read-low
+shared-slice-read-low c = search needs
 
-mul-byte-at-2 : tie.Need-mul-byte-at-2
-mul-byte-at-2 c = search needs
+add-high : tie.Need-add-high
+add-high c = search needs
 
-add-byte-at-2 : tie.Need-add-byte-at-2
-add-byte-at-2 c = search needs
-
-byte-at-requires-2 : tie.Need-byte-at-requires-2
-byte-at-requires-2 c κs = search needs
+shared-slice-read-high : tie.Need-shared-slice-read-high
+shared-slice-read-high c = search needs
 
 cast-result : tie.Need-cast-result
-cast-result c = search needs
+cast-result c = omega (arith, c .before .shared-slice-known .given (4 + 2 * c .before .before .args .j))
 
 cast-result-2 : tie.Need-cast-result-2
-cast-result-2 c = search needs
+cast-result-2 c = omega (arith, c .before .shared-slice-known .given (5 + 2 * c .before .before .args .j))
 
 mul-result : tie.Need-mul-result
-mul-result c = search needs
+mul-result c = omega (arith, c .before .shared-slice-known .given (5 + 2 * c .before .before .args .j))
 
 add-result : tie.Need-add-result
-add-result c = search needs
+add-result c = omega (arith, c .before .shared-slice-known .given (4 + 2 * c .before .before .args .j), c .before .shared-slice-known .given (5 + 2 * c .before .before .args .j))
 
 returns : tie.Need-returns
-returns c = word-read _ _ _ _ (c .before .byte-at .ensures) (c .byte-at2 .ensures)
+returns c = search needs
 
 pub word-of-spec : {M : Type 1} → statement M
 word-of-spec =
     tie.close
     (tie.spec
-    mul-byte-at
-    add-byte-at
-    byte-at-requires
-    mul-byte-at-2
-    add-byte-at-2
-    byte-at-requires-2
+    mul-at
+    add-low
+    shared-slice-read-low
+    add-high
+    shared-slice-read-high
     cast-result
     cast-result-2
     mul-result

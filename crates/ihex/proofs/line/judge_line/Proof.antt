@@ -1,53 +1,58 @@
 -- Each test in the definition's order.
-use Rattle.ihex.specs.LawsLine.{no-line, no-colon, no-count, wrong-length, no-digits, wrong-sum, right-sum}
+use Rattle.ihex.specs.LawsDecode.{judged-2, judged-3, judged-kind}
+use Rattle.ihex.specs.LawsLine.{no-line, no-colon, no-count, wrong-length, no-digits, wrong-sum}
+use native.Mathlib.Omega.{arith}
 use borrow.Author.Needs.{needs}
 use Rattle.ihex.proofs.line.judge_line.Statement.{statement}
 use Rattle.ihex.proofs.line.judge_line.Tie as tie
 
 returns : tie.Need-returns
-returns c = no-line _ (c .if1 .taken)
+returns c = judged-2 _ _ (no-line _ (c .if1 .taken))
 
 shared-slice-read-if2 : tie.Need-shared-slice-read-if2
 shared-slice-read-if2 c = search needs
 
 returns-2 : tie.Need-returns-2
-returns-2 c = no-colon _ (c .if2 .taken)
+returns-2 c = judged-2 _ _ (no-colon _ (c .if2 .taken))
 
-byte-at-requires : tie.Need-byte-at-requires
-byte-at-requires c κs = search needs
+count-of-requires : tie.Need-count-of-requires
+count-of-requires c κs = search needs
 
 returns-3 : tie.Need-returns-3
-returns-3 c = no-count _ _ (c .before .byte-at .ensures) (c .if3 .taken)
+returns-3 c = judged-2 _ _ (no-count _ _ (c .before .count-of .ensures) (c .if3 .taken))
 
-cast-if4 : tie.Need-cast-if4
-cast-if4 c = search needs
+cast-n : tie.Need-cast-n
+cast-n c = search needs
 
-add-if4 : tie.Need-add-if4
-add-if4 c = search needs
+add-n : tie.Need-add-n
+add-n c = search needs
 
 mul-if4 : tie.Need-mul-if4
 mul-if4 c = search needs
 
-add-if4-2 : tie.Need-add-if4-2
-add-if4-2 c = search needs
+add-if4 : tie.Need-add-if4
+add-if4 c = search needs
 
 returns-4 : tie.Need-returns-4
-returns-4 c = wrong-length _ _ (c .before .before .byte-at .ensures) (c .if4 .taken)
+returns-4 c = judged-2 _ _ (wrong-length _ _ (c .before .before .count-of .ensures) (c .if4 .taken))
 
-add-sum-of : tie.Need-add-sum-of
-add-sum-of c = search needs
+decode-requires : tie.Need-decode-requires
+decode-requires c κs = search needs
 
-sum-of-requires : tie.Need-sum-of-requires
-sum-of-requires c κs = search needs
+same-length : tie.Need-same-length
+same-length c = search needs
 
 returns-5 : tie.Need-returns-5
-returns-5 c = no-digits _ _ (c .before .before .before .before .byte-at .ensures) (c .before .before .before .before .before .if2 .left) (c .before .before .before .if3 .left) (c .before .before .if4 .left) _ (c .before .sum-of .ensures) (c .if5 .taken)
+returns-5 c = judged-2 _ _ (no-digits _ _ (c .before .before .before .before .before .before .before .count-of .ensures) (c .before .before .before .before .before .before .before .before .if2 .left) (c .before .before .before .before .before .before .if3 .left) (c .before .before .before .before .before .if4 .left) _ (c .before .before .before .decode .ensures .sum) (c .if5 .taken))
+
+same-length-2 : tie.Need-same-length-2
+same-length-2 c = search needs
 
 returns-6 : tie.Need-returns-6
-returns-6 c = wrong-sum _ _ (c .before .before .before .before .before .byte-at .ensures) (c .before .before .before .before .before .before .if2 .left) (c .before .before .before .before .if3 .left) (c .before .before .before .if4 .left) _ (c .before .before .sum-of .ensures) (c .before .if5 .left) (c .if6 .taken)
+returns-6 c = judged-3 _ _ (wrong-sum _ _ (c .before .before .before .before .before .before .before .before .count-of .ensures) (c .before .before .before .before .before .before .before .before .before .if2 .left) (c .before .before .before .before .before .before .before .if3 .left) (c .before .before .before .before .before .before .if4 .left) _ (c .before .before .before .before .decode .ensures .sum) (c .before .if5 .left) (c .if6 .taken))
 
-byte-at-requires-2 : tie.Need-byte-at-requires-2
-byte-at-requires-2 c κs = search needs
+slice-read-judge-kind : tie.Need-slice-read-judge-kind
+slice-read-judge-kind c = search needs
 
 offset-of-requires : tie.Need-offset-of-requires
 offset-of-requires c κs = search needs
@@ -55,8 +60,11 @@ offset-of-requires c κs = search needs
 judge-kind-requires : tie.Need-judge-kind-requires
 judge-kind-requires c κs = search needs
 
+same-length-3 : tie.Need-same-length-3
+same-length-3 c = search needs
+
 returns-7 : tie.Need-returns-7
-returns-7 c = right-sum _ _ (c .before .before .before .before .before .before .before .before .byte-at .ensures) (c .before .before .before .before .before .before .before .before .before .if2 .left) (c .before .before .before .before .before .before .before .if3 .left) (c .before .before .before .before .before .before .if4 .left) _ (c .before .before .before .before .before .sum-of .ensures) (c .before .before .before .before .if5 .left) (c .before .before .before .if6 .left) _ _ _ (c .before .before .byte-at2 .ensures) (c .before .offset-of .ensures) (c .judge-kind .ensures)
+returns-7 c = judged-kind _ _ _ (c .before .before .before .before .before .before .before .before .before .before .before .before .count-of .ensures) (c .before .before .before .before .before .before .before .before .before .before .before .before .before .if2 .left) (c .before .before .before .before .before .before .before .before .before .before .before .if3 .left) (c .before .before .before .before .before .before .before .before .before .before .if4 .left) _ (c .before .before .before .before .before .before .before .before .decode .ensures) (c .before .before .before .before .before .if5 .left) (c .before .before .before .before .if6 .left) _ _ (c .before .offset-of .ensures) (c .judge-kind .ensures)
 
 pub judge-line-spec : {M : Type 1} → statement M
 judge-line-spec =
@@ -65,18 +73,20 @@ judge-line-spec =
     returns
     shared-slice-read-if2
     returns-2
-    byte-at-requires
+    count-of-requires
     returns-3
-    cast-if4
-    add-if4
+    cast-n
+    add-n
     mul-if4
-    add-if4-2
+    add-if4
     returns-4
-    add-sum-of
-    sum-of-requires
+    decode-requires
+    same-length
     returns-5
+    same-length-2
     returns-6
-    byte-at-requires-2
+    slice-read-judge-kind
     offset-of-requires
     judge-kind-requires
+    same-length-3
     returns-7)

@@ -1,11 +1,13 @@
 -- One way through for each type.
+use Rattle.ihex.specs.LawsDecode.{sound-byte, sound-high, sound-low}
 use Rattle.ihex.specs.LawsReader.{record-data, record-end, record-upper}
+use native.Mathlib.Omega.{arith}
 use borrow.Author.Needs.{needs}
 use Rattle.ihex.proofs.step.take_record.Statement.{statement}
 use Rattle.ihex.proofs.step.take_record.Tie as tie
 
-byte-at-requires : tie.Need-byte-at-requires
-byte-at-requires c κs = search needs
+shared-slice-read-kind : tie.Need-shared-slice-read-kind
+shared-slice-read-kind c = search needs
 
 give-words-requires : tie.Need-give-words-requires
 give-words-requires c κs = search needs
@@ -14,45 +16,45 @@ same-length : tie.Need-same-length
 same-length c = search needs
 
 returns : tie.Need-returns
-returns c = record-data _ _ _ _ _ (c .before .before .before .before .before .byte-at .ensures) (c .before .before .before .before .if1 .taken) _ _ (c .before .before .give-words .ensures)
+returns c = λ line s. record-data _ line _ _ _ (sound-byte line _ s 3 (omega arith)) (c .before .before .before .before .if1 .taken) _ _ (c .before .before .give-words .ensures line s)
 
 returns-2 : tie.Need-returns-2
-returns-2 c = record-end _ _ _ _ _ (c .before .before .byte-at .ensures) (c .before .if1 .left) (c .if2 .taken)
+returns-2 c = λ line s. record-end _ line _ _ _ (sound-byte line _ s 3 (omega arith)) (c .before .if1 .left) (c .if2 .taken)
 
-byte-at-requires-2 : tie.Need-byte-at-requires-2
-byte-at-requires-2 c κs = search needs
+shared-slice-read-high : tie.Need-shared-slice-read-high
+shared-slice-read-high c = search needs
 
-byte-at-requires-3 : tie.Need-byte-at-requires-3
-byte-at-requires-3 c κs = search needs
+shared-slice-read-low : tie.Need-shared-slice-read-low
+shared-slice-read-low c = search needs
 
-cast-t12 : tie.Need-cast-t12
-cast-t12 c = search needs
+cast-t16 : tie.Need-cast-t16
+cast-t16 c = omega (arith, c .before .before .before .before .before .before .shared-slice-known .given 4)
 
-mul-t13 : tie.Need-mul-t13
-mul-t13 c = search needs
+mul-t17 : tie.Need-mul-t17
+mul-t17 c = omega (arith, c .before .before .before .before .before .before .shared-slice-known .given 4)
 
-cast-t14 : tie.Need-cast-t14
-cast-t14 c = search needs
+cast-t18 : tie.Need-cast-t18
+cast-t18 c = omega (arith, c .before .before .before .before .before .before .shared-slice-known .given 5)
 
-add-t15 : tie.Need-add-t15
-add-t15 c = search needs
+add-t19 : tie.Need-add-t19
+add-t19 c = omega (arith, c .before .before .before .before .before .before .shared-slice-known .given 4, c .before .before .before .before .before .before .shared-slice-known .given 5)
 
 returns-3 : tie.Need-returns-3
-returns-3 c = record-upper _ _ _ _ _ (c .before .before .before .before .byte-at .ensures) (c .before .before .before .if1 .left) (c .before .before .if2 .left) _ _ (c .before .byte-at2 .ensures) (c .byte-at3 .ensures)
+returns-3 c = λ line s. record-upper _ line _ _ _ (sound-byte line _ s 3 (omega arith)) (c .before .before .before .if1 .left) (c .before .before .if2 .left) _ _ (sound-high line _ s (c .before .before .before .if1 .left) (c .before .before .if2 .left)) (sound-low line _ s (c .before .before .before .if1 .left) (c .before .before .if2 .left))
 
 pub take-record-spec : {M : Type 1} → statement M
 take-record-spec =
     tie.close
     (tie.spec
-    byte-at-requires
+    shared-slice-read-kind
     give-words-requires
     same-length
     returns
     returns-2
-    byte-at-requires-2
-    byte-at-requires-3
-    cast-t12
-    mul-t13
-    cast-t14
-    add-t15
+    shared-slice-read-high
+    shared-slice-read-low
+    cast-t16
+    mul-t17
+    cast-t18
+    add-t19
     returns-3)
