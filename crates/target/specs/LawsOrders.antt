@@ -17,15 +17,15 @@ use Rattle.target.specs.LawsStep.{held, Taken, Obeys, load-configuration
 use Rattle.target.specs.declared.Order.{Order}
 use Rattle.target.specs.declared.Order.the-variants.{LoadConfiguration, LoadData, Read, Increment, ResetAddress, Begin, BulkErase, RowErase}
 
--- ---- results of parts that see no latches: they hold for any
+-- ---- results of parts that do not see the latches, or the words: they hold for any
 
 -- what Read answers, and the words that it leaves
 pub record Fetches (d : Device) (at : WordAddress) (read : ℕ) (words cells : List ℕ) (number : ℕ) (at′ : WordAddress) (read′ : ℕ) (words′ : List ℕ) : Type 0 where
   pub obeys : (latches : List ℕ) → Obeys d Read (held at latches) read words cells number (held at′ latches) read′ words′ cells
 
 -- what Bulk Erase answers, and the cells that it leaves
-pub record ErasesAll (d : Device) (at : WordAddress) (cells : List ℕ) (number : ℕ) (cells′ : List ℕ) : Type 0 where
-  pub obeys : (latches : List ℕ) (read : ℕ) (words : List ℕ) → Obeys d BulkErase (held at latches) read words cells number (held at latches) read words cells′
+pub record ErasesAll (d : Device) (at : WordAddress) (read : ℕ) (cells : List ℕ) (number : ℕ) (at′ : WordAddress) (read′ : ℕ) (cells′ : List ℕ) : Type 0 where
+  pub obeys : (latches words : List ℕ) → Obeys d BulkErase (held at latches) read words cells number (held at′ latches) read′ words cells′
 
 -- ---- the two orders that can be refused
 
@@ -47,15 +47,15 @@ module _ (d : Device) (at : WordAddress) (read : ℕ) (words cells : List ℕ) w
       taken : Taken d Read (at .0) read words cells (read + 1) (set words read w)
       taken = read-taken d Read (at .0) read words cells w refl e
 
-module _ (d : Device) (at : WordAddress) (cells : List ℕ) where
-  pub erase-all-refused : 0x8008 < at .0 → ErasesAll d at cells 33 cells
+module _ (d : Device) (at : WordAddress) (read : ℕ) (cells : List ℕ) where
+  pub erase-all-refused : 0x8008 < at .0 → ErasesAll d at read cells 33 at read cells
   erase-all-refused h =
-      record { obeys = λ latches read words. not-obeyed d BulkErase (held at latches) read words cells 33 (bulk-erase-refused d BulkErase (at .0) (length words - read) refl h) (λ e. omega arith) }
+      record { obeys = λ latches words. not-obeyed d BulkErase (held at latches) read words cells 33 (bulk-erase-refused d BulkErase (at .0) (length words - read) refl h) (λ e. omega arith) }
 
-  pub erase-all-done : at .0 ≤ 0x8008 → (cells′ : List ℕ) → cells′ ≡ edit (bulkErased (chipOf d) (at .0)) (λ i. erased) cells → ErasesAll d at cells 0 cells′
+  pub erase-all-done : at .0 ≤ 0x8008 → (cells′ : List ℕ) → cells′ ≡ edit (bulkErased (chipOf d) (at .0)) (λ i. erased) cells → ErasesAll d at read cells 0 at read cells′
   erase-all-done h cells′ f =
       record {
-        obeys = λ latches read words.
+        obeys = λ latches words.
             was-obeyed d BulkErase (held at latches) read words cells 0 (bulk-erase-accepted d BulkErase (at .0) (length words - read) refl h) refl (held at latches) read words cells′
             (bulk-erase-silent d BulkErase (at .0) read words cells refl .count) (bulk-erase-silent d BulkErase (at .0) read words cells refl .taken)
             (bulk-erase-cells d BulkErase (at .0) latches cells cells′ refl f) (bulk-erase-registers d BulkErase (held at latches) refl);
@@ -90,11 +90,11 @@ module _ (d : Device) (o : Order) (at : WordAddress) (latches : List ℕ) (read 
       silently (reset-accepted d o (at .0) _ e) (reset-silent d o (at .0) read words cells e) _ _ _
       (reset-cells d o (at .0) latches cells e) (reset-registers d o (held at latches) e)
 
-  pub obeys-begin : o ≡ Begin → (latches′ cells′ : List ℕ) → cells′ ≡ edit (written (chipOf d) (at .0) cells) (burnt (chipOf d) (at .0) latches cells) cells → latches′ ≡ replicate 32 erased
-      → Obeys d o (held at latches) read words cells 0 (held at latches′) read words cells′
-  obeys-begin e latches′ cells′ f g =
+  pub obeys-begin : o ≡ Begin → (cells′ : List ℕ) → cells′ ≡ edit (written (chipOf d) (at .0) cells) (burnt (chipOf d) (at .0) latches cells) cells
+      → Obeys d o (held at latches) read words cells 0 (held at (replicate 32 erased)) read words cells′
+  obeys-begin e cells′ f =
       silently (begin-accepted d o (at .0) _ e) (begin-silent d o (at .0) read words cells e) _ _ _
-      (begin-cells d o (at .0) latches cells cells′ e f) (ap (held at) g ∙ begin-registers d o (held at latches) e)
+      (begin-cells d o (at .0) latches cells cells′ e f) (begin-registers d o (held at latches) e)
 
   pub obeys-row-erase : o ≡ RowErase → (cells′ : List ℕ) → cells′ ≡ edit (rowErased (chipOf d) (at .0) cells) (λ i. erased) cells → Obeys d o (held at latches) read words cells 0 (held at latches) read words cells′
   obeys-row-erase e cells′ f =
@@ -105,5 +105,6 @@ module _ (d : Device) (o : Order) (at : WordAddress) (latches : List ℕ) (read 
       → Obeys d o (held at latches) read words cells number (held at′ latches) read′ words′ cells
   obeys-read e number at′ read′ words′ f = rw e (f .obeys latches)
 
-  pub obeys-bulk-erase : o ≡ BulkErase → (number : ℕ) (cells′ : List ℕ) → ErasesAll d at cells number cells′ → Obeys d o (held at latches) read words cells number (held at latches) read words cells′
-  obeys-bulk-erase e number cells′ f = rw e (f .obeys latches read words)
+  pub obeys-bulk-erase : o ≡ BulkErase → (number : ℕ) (at′ : WordAddress) (read′ : ℕ) (cells′ : List ℕ) → ErasesAll d at read cells number at′ read′ cells′
+      → Obeys d o (held at latches) read words cells number (held at′ latches) read′ words cells′
+  obeys-bulk-erase e number at′ read′ cells′ f = rw e (f .obeys latches words)

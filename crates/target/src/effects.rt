@@ -1,12 +1,10 @@
 // What orders do to the counter and the latches.
 use device::Device;
 use words::CONFIG_BASE;
-use words::ERASED;
 use words::WordAddress;
 ghost use mathlib.Core.Path.{_≡_};
 ghost use Prim.Native.Nat.{_%_};
-ghost use lib.ListN.{set, replicate};
-ghost use Rattle.words.specs.Word.{erased};
+ghost use lib.ListN.{set};
 ghost use Rattle.words.specs.Address.{configBase, successor};
 ghost use Rattle.device.specs.LawsRecord.{Rules};
 
@@ -17,14 +15,6 @@ pub(crate) fn load_latch(d: Device, at: WordAddress, w: u16, latches: &mut [u16;
 {
     let latch = (at.0 % d.row) as usize;
     latches[latch] = w;
-}
-
-// Every latch goes back to 3FFFh.
-pub(crate) fn clear_latches(latches: &mut [u16; 32])
-    ensures { λ _. ⌜ now (latches .exit) ≡ replicate 32 erased ⌝ }
-{
-    let blank = [ERASED; 32];
-    *latches = blank;
 }
 
 pub(crate) fn next_address(a: WordAddress) -> WordAddress

@@ -8,11 +8,11 @@ use crate::cells::erase_row;
 use crate::cells::word_at;
 use crate::cells::write_at;
 use crate::decode::decode;
-use crate::effects::clear_latches;
 use crate::effects::load_latch;
 use crate::effects::next_address;
 use device::Device;
 use words::CONFIG_BASE;
+use words::ERASED;
 use words::WORD_LIMIT;
 use words::WordAddress;
 ghost use mathlib.Core.Path.{_≡_};
@@ -122,17 +122,11 @@ fn obey(
         Order::ResetAddress => done(WordAddress(0), read),
         Order::Begin => {
             write_at(d, at, latches, cells);
-            clear_latches(latches);
+            let blank = [ERASED; 32];
+            *latches = blank;
             done(at, read)
         }
-        Order::BulkErase => {
-            let number = bulk_erase(d, at, cells);
-            Obeyed {
-                number,
-                counter: at,
-                read,
-            }
-        }
+        Order::BulkErase => bulk_erase(d, at, read, cells),
         Order::RowErase => {
             erase_row(d, at, cells);
             done(at, read)
@@ -169,16 +163,20 @@ fn fetch(d: Device, at: WordAddress, read: usize, words: &mut [u16], cells: &[u1
 }
 
 // Bulk Erase; 33 past the words at which it acts.
-fn bulk_erase(d: Device, at: WordAddress, cells: &mut [u16]) -> u8
+fn bulk_erase(d: Device, at: WordAddress, read: usize, cells: &mut [u16]) -> Obeyed
     requires { ⌜ Rules d ⌝ }
     requires { ⌜ length (now cells) ≡ d .words + 11 ⌝ }
-    ensures { λ n. ⌜ ErasesAll d at (now (cells .entry)) n (now (cells .exit)) ⌝ }
+    ensures { λ o. ⌜ ErasesAll d at read (now (cells .entry)) (o .number) (o .counter) (o .read) (now (cells .exit)) ⌝ }
 {
     if 0x8008 < at.0 {
-        return 33;
+        return Obeyed {
+            number: 33,
+            counter: at,
+            read,
+        };
     }
     erase_all(d, at, cells);
-    0
+    done(at, read)
 }
 
 // Whether the latches that count are words.

@@ -49,9 +49,6 @@ enum-told-4 c = search needs
 write-at-requires : tie.Need-write-at-requires
 write-at-requires c κs = search needs
 
-clear-latches-requires : tie.Need-clear-latches-requires
-clear-latches-requires c κs = search needs
-
 done-requires-5 : tie.Need-done-requires-5
 done-requires-5 c κs = search needs
 
@@ -128,7 +125,6 @@ obey-spec =
     done-requires-4
     enum-told-4
     write-at-requires
-    clear-latches-requires
     done-requires-5
     enum-told-5
     bulk-erase-requires
