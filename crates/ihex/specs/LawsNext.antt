@@ -32,17 +32,11 @@ unfolding numberAfter
 number-stays line h = sym (pick-false _ _ _ (le-ltb line mostLine h))
 
 module _ (text : List ℕ) (at line : ℕ) where
-  -- a search for LF ends where the line does
-  stop-found : (stop : ℕ) → stop ≡ at + indexOf lf (slice at (length text) text) → stop ≡ lineStop text at
-  unfolding lineStop slice
-  stop-found stop e = e ∙ rw take-length
-
-  pub next-is : at < length text → (stop n : ℕ) → stop ≡ at + indexOf lf (slice at (length text) text) → n ≡ numberAfter line
+  pub next-is : at < length text → (stop n : ℕ) → stop ≡ lineStop text at → n ≡ numberAfter line
       → record { start = at; stop = stop; at = stop + 1; line = n } ≡ nextLine text at line
   unfolding nextLine
   next-is h stop n e f =
-      (λ i. record { start = at; stop = stop-found stop e i; at = stop-found stop e i + 1; line = f i })
-      ∙ sym (pick-true _ _ _ (lt-ltb at (length text) h))
+      (λ i. record { start = at; stop = e i; at = e i + 1; line = f i }) ∙ sym (pick-true _ _ _ (lt-ltb at (length text) h))
 
   pub next-none : length text ≤ at → record { start = at; stop = at; at = at; line = line } ≡ nextLine text at line
   unfolding nextLine

@@ -7,6 +7,7 @@ pub mod LawsLine
 pub mod LawsDecode
 pub mod LawsGive
 pub mod LawsReader
+pub mod LawsScan
 pub mod LawsNext
 pub mod LawsLines
 pub mod LawsImage

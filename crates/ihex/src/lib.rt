@@ -3,6 +3,7 @@ mod give;
 mod line;
 pub mod lines;
 mod read;
+mod scan;
 mod step;
 mod write;
 mod write_record;

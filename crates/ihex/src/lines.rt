@@ -1,8 +1,7 @@
 // The lines of a lent text, taken one after another: a core over slice and cursor, and a reader that holds both.
+use crate::scan::line_stop;
 ghost use mathlib.Core.Path.{_≡_};
 ghost use Rattle.ihex.specs.Lines.{numberAfter, nextLine, atStart, Takes};
-
-const LF: u8 = 10;
 
 const MOST_LINE: u32 = 0xffffffff;
 
@@ -26,7 +25,7 @@ pub fn next_line(text: &[u8], at: usize, line: u32) -> NextLine
     ensures { λ r. ⌜ r ≡ nextLine (now (text .entry)) at line ⌝ }
 {
     if at < text.len() {
-        let stop = bytes::scan::find(text, at, text.len(), LF);
+        let stop = line_stop(text, at);
         return NextLine {
             start: at,
             stop,

@@ -21,13 +21,13 @@ shared-slice-read-high : tie.Need-shared-slice-read-high
 shared-slice-read-high c = search needs
 
 cast-result : tie.Need-cast-result
-cast-result c = omega (arith, c .before .shared-slice-known .given (4 + 2 * c .before .before .args .j))
+cast-result c = omega (arith, c .before .shared-slice-known .given (4 + 2 * c .before .before .args .j), c .before .shared-slice-known .given (5 + 2 * c .before .before .args .j))
 
 cast-result-2 : tie.Need-cast-result-2
-cast-result-2 c = omega (arith, c .before .shared-slice-known .given (5 + 2 * c .before .before .args .j))
+cast-result-2 c = omega (arith, c .before .shared-slice-known .given (4 + 2 * c .before .before .args .j), c .before .shared-slice-known .given (5 + 2 * c .before .before .args .j))
 
 mul-result : tie.Need-mul-result
-mul-result c = omega (arith, c .before .shared-slice-known .given (5 + 2 * c .before .before .args .j))
+mul-result c = omega (arith, c .before .shared-slice-known .given (4 + 2 * c .before .before .args .j), c .before .shared-slice-known .given (5 + 2 * c .before .before .args .j))
 
 add-result : tie.Need-add-result
 add-result c = omega (arith, c .before .shared-slice-known .given (4 + 2 * c .before .before .args .j), c .before .shared-slice-known .given (5 + 2 * c .before .before .args .j))
