@@ -2,8 +2,8 @@
 use Prim.Native.Nat.{ℕ, _+_, _*_, _/_, _%_, _≤_, _<_}
 use native.Mathlib.Decide.{decLt, ℕ-discrete}
 use native.Mathlib.Omega.{arith}
-use mathlib.Core.Path.{_≡_, refl, sym, ap, _∙_}
-use mathlib.Core.Bool.{Bool, true, false, _&&_, _||_}
+use mathlib.Core.Path.{_≡_, refl, sym, _∙_}
+use mathlib.Core.Bool.{Bool, true, false, _&&_}
 use mathlib.Core.List.{List}
 use lib.Bits.{bitOr, bitAnd, or-add-and, or-lt, and-le-l, and-le-r}
 use lib.Dec.{eqb}
@@ -16,7 +16,7 @@ use Rattle.words.specs.Hex.{digitOf, byteBy, joined}
 use Rattle.words.specs.LawsChoice.{second-holds}
 use Rattle.words.specs.LawsHex.{joined-both, joined-no-high, joined-no-low, byte-short, no-digit}
 use Rattle.words.specs.LawsLists.{getD-build}
-use Rattle.ihex.specs.Line.{byteAt, countOf, offsetOf, typeOf, isRecord, sumOk, typeOk, shapeOk, dataOk, lineNumber}
+use Rattle.ihex.specs.Line.{byteAt, countOf, offsetOf, typeOf, shapeOk, lineNumber}
 use Rattle.ihex.specs.Reader.{wordOf}
 use Rattle.ihex.specs.LawsLine.{ByteRead, OffsetRead, byte-most, sumRead, Summed, summed-none, summed-more, summed-bad, summed-all, kindNumber, right-sum}
 

@@ -1,11 +1,11 @@
 -- Laws of searching a text for the end of a line, bytes passed a few at a time.
-use Prim.Native.Nat.{ℕ, suc, _+_, _-_, _≤_, _<_}
+use Prim.Native.Nat.{ℕ, _+_, _-_, _≤_, _<_}
 use native.Mathlib.Omega.{arith}
 use native.Mathlib.Numerals.{add-one}
-use mathlib.Core.Path.{_≡_, refl, sym, ap, _∙_}
-use mathlib.Core.List.{List, _∷_}
+use mathlib.Core.Path.{_≡_, refl, sym, _∙_}
+use mathlib.Core.List.{List}
 use lib.Bits.{bitOr, bitAnd, or-add-and, and-le-l, and-le-r}
-use lib.ListN.{length, getD, drop}
+use lib.ListN.{length, getD}
 use lib.Seq.{drop-cons, take-length}
 use borrow.Author.Tests.{ne-eqb}
 use Rattle.bytes.specs.Bytes.{indexOf, indexAfter, slice}

@@ -16,7 +16,7 @@ ghost use Rattle.ihex.specs.Reader.{entryAt, canGive, giveWords};
 ghost use Rattle.ihex.specs.LawsDecode.{Sound};
 ghost use Rattle.ihex.specs.LawsGive.{reading};
 
-// Gives words until one is refused: 0, or the first of 7, 8, 9 that holds. It holds of every line that these are the bytes of.
+// Gives words until one is refused: 0, or the first of 7, 8, 9 that holds, whatever line the bytes are those of.
 pub(crate) fn give_words(words: u16, upper: u32, bytes: &[u8], image: &mut [u16]) -> u8
     requires { ⌜ (length (now bytes) ≡ 260) × (length (now image) ≡ words + 9) ⌝ }
     ensures { λ r. ⌜ ((line : List ℕ) → Sound line (now (bytes .entry)) → reading false upper (now (image .exit)) r ≡ giveWords words upper line (now (image .entry)) 0 (countOf line / 2)) ⌝ }

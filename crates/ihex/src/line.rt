@@ -70,7 +70,7 @@ fn count_of(digits: &[u8; 256], line: &[u8]) -> u16
     }
     let high = digit(digits, line[1]);
     let low = digit(digits, line[2]);
-    if 16 <= high | low {
+    if 16 <= (high | low) {
         return 256;
     }
     16 * (high as u16) + (low as u16)
@@ -86,7 +86,7 @@ fn decode(digits: &[u8; 256], line: &[u8], n: usize, bytes: &mut [u8]) -> u16
     while j < n {
         let high = digit(digits, line[1 + 2 * j]);
         let low = digit(digits, line[2 + 2 * j]);
-        if 16 <= high | low {
+        if 16 <= (high | low) {
             return 256;
         }
         let b = 16 * high + low;

@@ -24,7 +24,7 @@ fn pass_eights(text: &[u8], from: usize) -> usize
 {
     let mut i = from;
     while 8 <= text.len() - i {
-        if lf_in_four(text, i) | lf_in_four(text, i + 4) != 0 {
+        if (lf_in_four(text, i) | lf_in_four(text, i + 4)) != 0 {
             return i;
         }
         i += 8;

@@ -2,7 +2,6 @@
 use Rattle.ihex.specs.LawsDecode.{Decoding, decoding-none, decoding-more, decoding-bad, decoding-all, byte-fits}
 use mathlib.Core.Path.{sym, _∙_}
 use Prim.Native.Nat.{_-_}
-use borrow.Author.Needs.{needs}
 use native.Mathlib.Omega.{arith}
 use Rattle.ihex.proofs.line.decode.Statement.{statement}
 use Rattle.ihex.proofs.line.decode.Tie as tie

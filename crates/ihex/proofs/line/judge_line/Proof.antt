@@ -1,7 +1,6 @@
 -- Each test in the definition's order.
 use Rattle.ihex.specs.LawsDecode.{judged-2, judged-3, judged-kind}
 use Rattle.ihex.specs.LawsLine.{no-line, no-colon, no-count, wrong-length, no-digits, wrong-sum}
-use native.Mathlib.Omega.{arith}
 use borrow.Author.Needs.{needs}
 use Rattle.ihex.proofs.line.judge_line.Statement.{statement}
 use Rattle.ihex.proofs.line.judge_line.Tie as tie
