@@ -18,7 +18,7 @@ pub(crate) fn answer(
     out: &mut [u8],
 ) -> usize {
     match name::place(
-        b"words.double words.halve words.entry_of words.address_of words.is_words",
+        b"words.double words.halve words.entry_of words.address_of words.is_words words.digits",
         name,
     ) {
         0 => double(line, at, out),
@@ -26,6 +26,7 @@ pub(crate) fn answer(
         2 => entry_of(line, at, out),
         3 => address_of(line, at, out),
         4 => is_words(line, at, w, out),
+        5 => digits(line, at, out),
         _ => of_text::answer(name, line, at, a, out),
     }
 }
@@ -106,4 +107,12 @@ fn is_words(line: &[u8], at: usize, w: &mut [u16], out: &mut [u8]) -> usize {
         at,
         words::list::is_words(&w[..count], n.value as usize),
     )
+}
+
+fn digits(line: &[u8], at: usize, out: &mut [u8]) -> usize {
+    if at != line.len() {
+        return NOWHERE;
+    }
+    let table = words::hex::digits();
+    put::bytes(out, at, &table)
 }

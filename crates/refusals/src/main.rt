@@ -30,6 +30,12 @@ fn main() {
         b"full.hex",
     );
     call::update(
+        b"such an ID, and a sheet that is too long",
+        b"tiny.tab",
+        b"long.txt",
+        b"full.hex",
+    );
+    call::update(
         b"another address in the sheet",
         b"tiny.tab",
         b"rest.txt",

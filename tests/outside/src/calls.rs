@@ -23,7 +23,7 @@ pub struct Call {
 
 /// What 0 and 1 mean for calls that give no refusal numbers.
 pub const CLASSES: &str =
-    "words.*: 0 found or done, 1 nothing there (no room); is_words, is_image: the answer";
+    "words.*, next_line, line_from: 0 found or done, 1 nothing there (no room); is_words, is_image: the answer";
 
 #[derive(Clone, Debug)]
 pub struct Request {
@@ -233,6 +233,27 @@ fn run(f: &[Field]) -> Reply {
     )
 }
 
+/// The line that begins at a place, after the line of that number: nothing moves at the text's end.
+fn next_line(f: &[Field]) -> Reply {
+    let (text, at, line) = (field::bytes(f, 0), field::num(f, 1), field::num(f, 2));
+    let found = usize::try_from(at)
+        .ok()
+        .and_then(|i| text.get(i..))
+        .filter(|rest| !rest.is_empty());
+    match found {
+        Some(rest) => {
+            let length = rest.iter().position(|&c| c == b'\n').unwrap_or(rest.len());
+            let stop = at + length as u64;
+            let number = (line + 1).min(u64::from(u32::MAX));
+            reply(
+                0,
+                vec![at.into(), stop.into(), (stop + 1).into(), number.into()],
+            )
+        }
+        None => reply(1, vec![at.into(), at.into(), at.into(), line.into()]),
+    }
+}
+
 /// The table of calls.
 pub static CALLS: &[Call] = &[
     Call {
@@ -281,6 +302,15 @@ pub static CALLS: &[Call] = &[
         kinds: &[Num(8)],
         classes: &[0, 1],
         own: |f| or_none(w::capital(n8(f, 0)).map(u64::from), w::NO_DIGIT.into()),
+    },
+    Call {
+        name: "words.digits",
+        kinds: &[],
+        classes: &[0],
+        own: |_| {
+            let value = |c: u8| w::digit(c).unwrap_or(w::NO_DIGIT as u8);
+            reply(0, vec![(0..=255).map(value).collect::<Vec<u8>>().into()])
+        },
     },
     Call {
         name: "words.byte",
@@ -445,6 +475,18 @@ pub static CALLS: &[Call] = &[
             let (number, length) = hex::write(&device_at(f), field::words(f, D), &mut out);
             written(number, length, out)
         },
+    },
+    Call {
+        name: "ihex.next_line",
+        kinds: &[Bytes, Num(64), Num(32)],
+        classes: &[0, 1],
+        own: next_line,
+    },
+    Call {
+        name: "ihex.line_from",
+        kinds: &[Bytes, Num(64), Num(32)],
+        classes: &[0, 1],
+        own: next_line,
     },
     Call {
         name: "target.step",

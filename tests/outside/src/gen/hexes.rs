@@ -324,6 +324,9 @@ pub fn text(d: &Device, image: &[u16], aim: u32, most: usize, rng: &mut Rng) -> 
 }
 
 pub fn ihex(name: &str, aim: u32, rng: &mut Rng) -> Vec<Field> {
+    if name == "next_line" || name == "line_from" {
+        return super::texts::next_line(aim == 1, rng);
+    }
     let d = any_device(rng);
     let reading = reading_for(&d, rng.chance(30), rng);
     let mut image = image_for(&d, &reading, rng);

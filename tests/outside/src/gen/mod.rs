@@ -125,6 +125,9 @@ fn random(kind: Kind, rng: &mut Rng) -> Field {
 
 /// Damages one place of one field; mostly not a number, or a record's five would take most of the damage.
 fn damage(fields: &mut [Field], kinds: &[Kind], rng: &mut Rng) {
+    if fields.is_empty() {
+        return;
+    }
     let lists: Vec<usize> = (0..kinds.len())
         .filter(|&i| !matches!(kinds[i], Kind::Num(_)))
         .collect();

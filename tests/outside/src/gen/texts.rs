@@ -12,6 +12,7 @@ const BESIDE: &[u8] = b"/:@G`g\x00\xFF \t\n";
 pub fn words(name: &str, aim: u32, rng: &mut Rng) -> Vec<Field> {
     let nothing = aim == 1;
     match name {
+        "digits" => vec![],
         "double" => vec![number(16, rng).into()],
         "halve" => vec![halve(nothing, rng).into()],
         "entry_of" => entry_of(nothing, rng),
@@ -195,4 +196,19 @@ fn is_words(yes: bool, rng: &mut Rng) -> Vec<Field> {
         }
     }
     vec![list.into(), n.into()]
+}
+
+/// A text of short lines, a place in it or past it, and the number of the line before.
+pub fn next_line(nothing: bool, rng: &mut Rng) -> Vec<Field> {
+    let length = rng.below(60) + usize::from(!nothing);
+    let text: Vec<u8> = (0..length)
+        .map(|_| rng.pick(b"\n\n\r:0F\x0B\x09"))
+        .collect();
+    let at = match rng.below(3) {
+        _ if !nothing => rng.below(text.len()) as u64,
+        0 => text.len() as u64,
+        1 => u64::MAX - rng.below(3) as u64,
+        _ => text.len() as u64 + rng.below(9) as u64,
+    };
+    vec![text.into(), at.into(), number(32, rng).into()]
 }
