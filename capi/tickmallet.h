@@ -68,8 +68,9 @@ uint8_t tickmallet_read_hex(const tickmallet_device *device, const uint8_t *text
 uint8_t tickmallet_write_hex(const tickmallet_device *device, const uint16_t *image, size_t image_count,
                              uint8_t *out, size_t out_count, size_t *length);
 
-/* Runs a stream on the target model: entry, and then at most `allowance` steps. Stores the steps completed and the words read, which go
-   in order to `words`. A run that ends early because a step is refused keeps what the earlier steps did.
+/* Runs a stream on the target model: entry, and then at most `allowance` steps. Stores the steps completed and how many words were
+   read, which go in order to `words`. A run that ends early because a step is refused keeps what the earlier steps did, and stores 0 for
+   the count of words.
    Before the first step 13; 32: the cells are not P+11 words; 34: the stream is not in threes. Of a step 30: unknown code; 31: bad
    payload; 33: Bulk Erase above 8008h; 35: no room for the word read. */
 uint8_t tickmallet_run(const tickmallet_device *device, uint16_t *cells, size_t cells_count, const uint8_t *stream, size_t stream_count,

@@ -132,6 +132,6 @@ uint8_t plain_run(const tickmallet_device *device, uint16_t *cells, size_t cells
             break;
     }
     *steps = k;
-    *words_read = m.done;
+    *words_read = number ? 0 : m.done; /* of a refused run only the steps are told */
     return (uint8_t)number;
 }
