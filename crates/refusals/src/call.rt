@@ -6,7 +6,7 @@ fn name(case: &[u8]) {
     files::show(b"\t", 1);
 }
 
-pub fn update(case: &[u8], table: &[u8], sheet: &[u8], hex: &[u8]) {
+pub(crate) fn update(case: &[u8], table: &[u8], sheet: &[u8], hex: &[u8]) {
     let mut a = io::buffer();
     let t = files::read(os::open_read(table), &mut a);
     let mut b = io::large_buffer();
@@ -19,7 +19,7 @@ pub fn update(case: &[u8], table: &[u8], sheet: &[u8], hex: &[u8]) {
     files::show(&out, n);
 }
 
-pub fn fresh(case: &[u8], table: &[u8], sheet: &[u8], hex: &[u8]) {
+pub(crate) fn fresh(case: &[u8], table: &[u8], sheet: &[u8], hex: &[u8]) {
     let mut a = io::buffer();
     let t = files::read(os::open_read(table), &mut a);
     let mut b = io::large_buffer();
@@ -32,7 +32,7 @@ pub fn fresh(case: &[u8], table: &[u8], sheet: &[u8], hex: &[u8]) {
     files::show(&out, n);
 }
 
-pub fn trial(case: &[u8], table: &[u8], sheet: &[u8], stream: &[u8]) {
+pub(crate) fn trial(case: &[u8], table: &[u8], sheet: &[u8], stream: &[u8]) {
     let mut a = io::buffer();
     let t = files::read(os::open_read(table), &mut a);
     let mut b = io::large_buffer();
@@ -45,7 +45,7 @@ pub fn trial(case: &[u8], table: &[u8], sheet: &[u8], stream: &[u8]) {
     files::show(&out, n);
 }
 
-pub fn readback(case: &[u8], table: &[u8], sheet: &[u8]) {
+pub(crate) fn readback(case: &[u8], table: &[u8], sheet: &[u8]) {
     let mut a = io::buffer();
     let t = files::read(os::open_read(table), &mut a);
     let mut b = io::large_buffer();
@@ -56,7 +56,7 @@ pub fn readback(case: &[u8], table: &[u8], sheet: &[u8]) {
     files::show(&out, n);
 }
 
-pub fn checksum(case: &[u8], table: &[u8], sheet: &[u8]) {
+pub(crate) fn checksum(case: &[u8], table: &[u8], sheet: &[u8]) {
     let mut a = io::buffer();
     let t = files::read(os::open_read(table), &mut a);
     let mut b = io::large_buffer();
@@ -67,7 +67,7 @@ pub fn checksum(case: &[u8], table: &[u8], sheet: &[u8]) {
     files::show(&out, n);
 }
 
-pub fn dump(case: &[u8], table: &[u8], sheet: &[u8]) {
+pub(crate) fn dump(case: &[u8], table: &[u8], sheet: &[u8]) {
     let mut a = io::buffer();
     let t = files::read(os::open_read(table), &mut a);
     let mut b = io::large_buffer();
@@ -78,7 +78,7 @@ pub fn dump(case: &[u8], table: &[u8], sheet: &[u8]) {
     files::show(&out, n);
 }
 
-pub fn verify(case: &[u8], table: &[u8], sheet: &[u8], wanted: &[u8]) {
+pub(crate) fn verify(case: &[u8], table: &[u8], sheet: &[u8], wanted: &[u8]) {
     let mut a = io::buffer();
     let t = files::read(os::open_read(table), &mut a);
     let mut b = io::large_buffer();
