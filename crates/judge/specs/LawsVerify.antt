@@ -8,7 +8,7 @@ use mathlib.Core.Bool.{Bool, true, false, _&&_, _||_, not}
 use mathlib.Core.List.{List}
 use lib.Dec.{ltb, eqb}
 use lib.ListN.{getD}
-use borrow.Author.Tests.{lt-ltb, le-ltb, eqb-true, eq-eqb, not-false}
+use borrow.Author.Tests.{lt-ltb, le-ltb, eqb-true, eq-eqb, ne-eqb, not-false}
 use Rattle.words.specs.Choice.{pick}
 use Rattle.words.specs.LawsChoice.{second-fails}
 use Rattle.words.specs.LawsLists.{in-range, below-range, above-range}
@@ -150,3 +150,20 @@ address-ascends words i j low h = by (decLt i words) (decLt j words)
     by (yes p) (yes q) = rw (address-program configBase words i p, address-program configBase words j q) h
     by (yes p) (no q) = rw (address-program configBase words i p, address-config configBase words j (omega arith)) (omega arith)
     by (no p) q = rw (address-config configBase words i (omega arith), address-config configBase words j (omega arith)) (omega arith)
+
+-- ---- the code's two tests of an entry: whether its words are the same comes first
+
+module _ (words : ℕ) (hidden : Bool) (i wanted reading : ℕ) where
+  pub differ-judged : (r : Bool) → (wanted ≡ reading → ⊥) → r ≡ judged words hidden i → r ≡ (judged words hidden i && not (eqb wanted reading))
+  differ-judged r n e = rw (ne-eqb wanted reading n, e) (both (judged words hidden i))
+    where
+      both : (b : Bool) → b ≡ (b && true)
+      both true = refl
+      both false = refl
+
+  pub differ-same : wanted ≡ reading → false ≡ (judged words hidden i && not (eqb wanted reading))
+  differ-same e = rw (eq-eqb wanted reading e) (neither (judged words hidden i))
+    where
+      neither : (b : Bool) → false ≡ (b && false)
+      neither true = refl
+      neither false = refl

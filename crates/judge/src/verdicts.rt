@@ -94,8 +94,8 @@ fn note(found: Differences, i: usize, other: bool) -> Differences
 fn differ(words: u16, hidden: bool, i: usize, wanted: u16, reading: u16) -> bool
     ensures { λ r. ⌜ r ≡ (judged words hidden i && not (eqb wanted reading)) ⌝ }
 {
-    if is_judged(words, hidden, i) {
-        return wanted != reading;
+    if wanted != reading {
+        return is_judged(words, hidden, i);
     }
     false
 }
