@@ -4,8 +4,6 @@ use native.Mathlib.Omega.{arith}
 use mathlib.Core.Path.{_≡_, refl, sym, ap, _∙_}
 use mathlib.Core.Bool.{Bool, true, false}
 use mathlib.Core.List.{List}
-use mir.Syntax.{w64}
-use mir.Val.{Fits}
 use lib.Dec.{leb, eqb}
 use lib.ListN.{length, getD}
 use lib.Seq.{sets}
@@ -23,7 +21,7 @@ use Rattle.target.specs.Stream.{bytesOf}
 use Rattle.plan.specs.Wanted.{known, wanted}
 use Rattle.plan.specs.Answers.{otherId, canWrite, configOk, updateNumber, freshNumber, readBackNumber, planned, plannedOut, Plans}
 use Rattle.plan.specs.LawsPlanWanted.{known-inside}
-use Rattle.plan.specs.LawsPlanWrote.{Wrote, Room, ample}
+use Rattle.plan.specs.LawsPlanWrote.{Wrote}
 use Rattle.plan.specs.declared.Planned.{Planned}
 
 module _ (number : ℕ) (steps : List Order) (out : List ℕ) where
@@ -52,15 +50,15 @@ module _ (number : ℕ) (steps : List Order) (out : List ℕ) where
       let is : planned number steps out ≡ record { number = number; steps = 0 } = refused-is (λ z. h (e ∙ z)) in
       record { answers = rw e (sym is); written = sym (stays (λ z. h (e ∙ (sym (ap (λ r. r .number) is) ∙ z)))) }
 
-  pub plans-short : (n need : ℕ) (scratch scratch′ : List ℕ) → n ≡ number → n ≡ 0 → Wrote steps 0 scratch need scratch′ → length out < 3 * need → Plans number steps out (record { number = 26; steps = 0 }) out
-  plans-short n need scratch scratch′ e z w h =
-      let is : planned number steps out ≡ record { number = 26; steps = 0 } = short-is (sym e ∙ z) (let c : need ≡ 0 + length steps = w .count in omega arith) in
+  pub plans-short : (n need : ℕ) → n ≡ number → n ≡ 0 → need ≡ length steps → length out < 3 * need → Plans number steps out (record { number = 26; steps = 0 }) out
+  plans-short n need e z c h =
+      let is : planned number steps out ≡ record { number = 26; steps = 0 } = short-is (sym e ∙ z) (omega arith) in
       record { answers = sym is; written = sym (stays (λ q. let t : _≡_ {A = ℕ} 26 0 = sym (ap (λ r. r .number) is) ∙ q in omega arith)) }
 
-  pub plans-done : (n need : ℕ) (scratch scratch′ : List ℕ) (r : ℕ) (out′ : List ℕ) → n ≡ number → n ≡ 0 → Wrote steps 0 scratch need scratch′ → 3 * need ≤ length out → Wrote steps 0 out r out′
+  pub plans-done : (n need r : ℕ) (out′ : List ℕ) → n ≡ number → n ≡ 0 → need ≡ length steps → 3 * need ≤ length out → Wrote steps 0 out r out′
       → Plans number steps out (record { number = 0; steps = r }) out′
-  plans-done n need scratch scratch′ r out′ e z w h v =
-      let is : planned number steps out ≡ record { number = 0; steps = length steps } = done-is (sym e ∙ z) (let c : need ≡ 0 + length steps = w .count in omega arith) in
+  plans-done n need r out′ e z w h v =
+      let is : planned number steps out ≡ record { number = 0; steps = length steps } = done-is (sym e ∙ z) (omega arith) in
       let t : r ≡ 0 + length steps = v .count in
       let c : r ≡ length steps = omega arith in
       record { answers = rw c (sym is); written = v .bytes ∙ sym (goes (ap (λ p. p .number) is)) }
@@ -84,10 +82,6 @@ module _ (d : Device) (n : ℕ) (judged : n ≡ recordNumber d) where
 
   pub rules-judged : n ≡ 0 → Rules d
   rules-judged e = rules-of-judged d (sym judged ∙ e)
-
--- three times the steps of a stream with room fits
-pub bytes-fit : (steps : List Order) (out : List ℕ) (r : ℕ) (out′ : List ℕ) → Room steps 0 → Wrote steps 0 out r out′ → Fits w64 (3 * r)
-bytes-fit steps out r out′ m w = let c : r ≡ 0 + length steps = w .count in let f : 0 + length steps ≤ ample = m .few in record { fits = omega arith }
 
 -- ---- refusals of an update, in the code's order
 

@@ -1,6 +1,6 @@
 -- How long the streams are ('It has 2P+18 steps', 'never more than 2P + 2P/R + 22 steps').
 use Prim.Native.Nat.{ℕ, zero, suc, _+_, _-_, _*_, _/_, _≤_, _<_}
-use native.Mathlib.Nat.{suc-mul, add-mul, mul-add, mul-left-comm, mul-le-mul-left}
+use native.Mathlib.Nat.{suc-mul, mul-add, mul-left-comm, mul-le-mul-left}
 use native.Mathlib.Omega.{arith}
 use mathlib.Core.Path.{_≡_, refl, ap, _∙_}
 use mathlib.Core.Bool.{Bool, true, false}
@@ -18,8 +18,7 @@ use Rattle.target.specs.declared.Order.{Order}
 use Rattle.target.specs.declared.Order.the-variants.{LoadConfiguration, LoadData, Increment, Begin}
 use Rattle.plan.specs.Wanted.{wanted, some, rowDiffers, idDiffers, updateWrites, freshWrites}
 use Rattle.plan.specs.Steps.{walk, loads, erasing, rowSteps, rowsFrom, wordSteps, writesFrom, configSteps, updateSteps, freshSteps, reads, readBackSteps}
-use Rattle.plan.specs.LawsPlanWrote.{Room, ample}
-use Rattle.plan.specs.LawsPlanSteps.{rows-open, writes-open, config-yes, config-no}
+use Rattle.plan.specs.LawsPlanSteps.{rows-open, row-after, writes-open, config-yes, config-no}
 
 -- ---- segments
 
@@ -50,7 +49,7 @@ pub no-erasing : length (erasing false) ≡ 0
 unfolding erasing
 no-erasing = refl
 
-length-row : (erase : Bool) (word : ℕ → ℕ) (at first row : ℕ) → 0 < row → length (rowSteps erase word at first row) ≡ (first - at) + (length (erasing erase) + 2 * row)
+pub length-row : (erase : Bool) (word : ℕ → ℕ) (at first row : ℕ) → 0 < row → length (rowSteps erase word at first row) ≡ (first - at) + (length (erasing erase) + 2 * row)
 unfolding rowSteps
 length-row erase word at first row h =
     length-append (walk at first) (erasing erase ++ (loads word first row ++ Begin ∷ []))
@@ -60,7 +59,7 @@ length-row erase word at first row h =
     one : row ≡ suc (row - 1)
     one = omega arith
 
-length-word : (word at k : ℕ) → length (wordSteps word at k) ≡ (k - at) + 2
+pub length-word : (word at k : ℕ) → length (wordSteps word at k) ≡ (k - at) + 2
 unfolding wordSteps
 length-word word at k = length-append (walk at k) (LoadData word ∷ Begin ∷ []) ∙ rw (length-walk at k)
 
@@ -75,9 +74,6 @@ module _ (erase : Bool) (word : ℕ → ℕ) (chosen : ℕ → Bool) (row : ℕ)
   abbrev Bound : ℕ → Type 0
   Bound n = (k at : ℕ) → at < k * row → length (rowsFrom erase word chosen row n k at) + 1 + at ≤ k * row + n * cost
 
-  next : (k : ℕ) → (k + 1) * row ≡ k * row + row
-  next k = add-mul k 1 row ∙ (let e : 1 * row ≡ row = omega arith in omega arith)
-
   row-more : (n : ℕ) → Bound n → (k at : ℕ) → at ≤ k * row → length (rowsFrom erase word chosen row (suc n) k at) + 1 + at ≤ k * row + suc n * cost
   row-more n rest k at h = by (chosen k) refl
     where
@@ -90,11 +86,11 @@ module _ (erase : Bool) (word : ℕ → ℕ) (chosen : ℕ → Bool) (row : ℕ)
             length-row erase word at (k * row) row words-in-it,
             suc-mul n cost,
           )
-          (let z : (k + 1) * row ≡ k * row + row = next k in
+          (let z : (k + 1) * row ≡ k * row + row = row-after k row in
           let r : length (rowsFrom erase word chosen row n (k + 1) (k * row + (row - 1))) + 1 + (k * row + (row - 1)) ≤ (k + 1) * row + n * cost = rest (k + 1) (k * row + (row - 1)) (omega arith) in omega arith)
       by false e =
           rw (rows-open erase word chosen row n k at, pick-false (chosen k) (rowSteps erase word at (k * row) row ++ rowsFrom erase word chosen row n (k + 1) (k * row + (row - 1))) (rowsFrom erase word chosen row n (k + 1) at) e, suc-mul n cost)
-          (let z : (k + 1) * row ≡ k * row + row = next k in
+          (let z : (k + 1) * row ≡ k * row + row = row-after k row in
           let r : length (rowsFrom erase word chosen row n (k + 1) at) + 1 + at ≤ (k + 1) * row + n * cost = rest (k + 1) at (omega arith) in omega arith)
 
   no-rows : (k at : ℕ) → rowsFrom erase word chosen row zero k at ≡ []
@@ -111,6 +107,19 @@ module _ (erase : Bool) (word : ℕ → ℕ) (chosen : ℕ → Bool) (row : ℕ)
       let one : n ≡ suc (n - 1) = omega arith in
       let r : length (rowsFrom erase word chosen row (suc (n - 1)) 0 0) + 1 + 0 ≤ 0 * row + suc (n - 1) * cost = row-more (n - 1) (rows-bound (n - 1)) 0 0 (omega arith) in
       rw one (omega arith)
+
+  -- four times the words at most
+  pub rows-few : (n : ℕ) → n * row ≤ mostWords → length (rowsFrom erase word chosen row n 0 0) ≤ 4 * mostWords
+  rows-few zero h = rw (no-rows 0 0) (omega arith)
+  rows-few (suc m) h =
+      let n : ℕ = suc m in
+      let b : length (rowsFrom erase word chosen row n 0 0) + 1 ≤ n * cost = rows-cost n (omega arith) in
+      let s : n * cost ≡ n * (2 * row) + n * (1 + length (erasing erase)) = mul-add n (2 * row) (1 + length (erasing erase)) in
+      let t : n * (2 * row) ≡ 2 * (n * row) = mul-left-comm n 2 row in
+      let e : length (erasing erase) ≤ 1 = length-erasing erase in
+      let u : n * (1 + length (erasing erase)) ≤ n * 2 = mul-le-mul-left n (omega arith) in
+      let v : n * 1 ≤ n * row = mul-le-mul-left n words-in-it in
+      omega arith
 
 -- ---- words of configuration space
 
@@ -154,6 +163,18 @@ module _ (word : ℕ → ℕ) (chosen : ℕ → Bool) where
   unfolding pick
   one-at-most true = omega arith
   one-at-most false = omega arith
+
+  tally-most : (n k : ℕ) → tally chosen n k ≤ n
+  unfolding tally
+  tally-most zero k = omega arith
+  tally-most (suc n) k = let a : pick (chosen k) 1 0 ≤ 1 = one-at-most (chosen k) in let b : tally chosen n (k + 1) ≤ n = tally-most n (k + 1) in omega arith
+
+  -- all nine words, the counter at the first
+  pub writes-cost : length (writesFrom word chosen 9 0 0) ≤ 26
+  writes-cost =
+      let t : tally chosen 9 0 ≤ 9 = tally-most 9 0 in
+      let w : length (writesFrom word chosen 9 0 0) + 1 + 0 ≤ 0 + 9 + 2 * tally chosen 9 0 = writes-bound 9 0 0 (omega arith) (omega arith) in
+      omega arith
 
   -- six words at most: 8004h to 8006h are never written
   tally-six : chosen 4 ≡ false → chosen 5 ≡ false → chosen 6 ≡ false → tally chosen 9 0 ≤ 6
@@ -235,7 +256,7 @@ module _ (d : Device) (r : Rules d) where
       let t : length tail ≤ 21 + length (erasing false) = config-cost (λ k. wanted image [] (d .words + k)) (freshWrites d image) false (fresh-skips d image [] 4 refl (unfold inRange in refl)) (fresh-skips d image [] 5 refl (unfold inRange in refl)) (fresh-skips d image [] 6 refl (unfold inRange in refl)) in
       rw (length-append body tail) (omega arith)
 
-  read-back-count : length (readBackSteps d) ≡ 2 * d .words + 18
+  pub read-back-count : length (readBackSteps d) ≡ 2 * d .words + 18
   unfolding readBackSteps
   read-back-count =
       let p : 8 ≤ d .row = row (d .row) (r .row-is) .low in
@@ -244,25 +265,6 @@ module _ (d : Device) (r : Rules d) where
       let a : length (reads (d .words)) ≡ 2 * (d .words - 1) + 1 = ap (λ n. length (reads n)) one ∙ length-reads (d .words - 1) in
       let b : length (reads 9) ≡ 17 = length-reads 8 in
       rw (length-append (reads (d .words)) (LoadConfiguration erased ∷ reads 9)) (omega arith)
-
-  -- far below what a number of the machine counts
-  pub most-steps : 2 * d .words + 2 * rows + 22 ≤ ample
-  most-steps =
-      let w : rows * d .row ≡ d .words = whole-rows d r in
-      let p : 8 ≤ d .row = row (d .row) (r .row-is) .low in
-      let m : d .words ≤ mostWords = r .most in
-      let e : rows * 8 ≤ rows * d .row = mul-le-mul-left rows p in
-      omega arith
-
-  -- room for each stream
-  pub update-room : (image reading : List ℕ) → Room (updateSteps d image reading) 0
-  update-room image reading = let m : length (updateSteps d image reading) ≤ 2 * d .words + 2 * rows + 22 = update-most image reading in let t : 2 * d .words + 2 * rows + 22 ≤ ample = most-steps in record { few = omega arith }
-
-  pub fresh-room : (image : List ℕ) → Room (freshSteps d image) 0
-  fresh-room image = let m : length (freshSteps d image) ≤ 2 * d .words + 2 * rows + 22 = fresh-most image in let t : 2 * d .words + 2 * rows + 22 ≤ ample = most-steps in record { few = omega arith }
-
-  pub read-back-room : Room (readBackSteps d) 0
-  read-back-room = let m : length (readBackSteps d) ≡ 2 * d .words + 18 = read-back-count in let w : d .words ≤ mostWords = r .most in record { few = omega arith }
 
   -- a device has words, and rows of words
   pub some-words : 0 < d .words
@@ -273,6 +275,10 @@ module _ (d : Device) (r : Rules d) where
 
   pub few-words : rows * d .row ≤ mostWords
   few-words = let w : rows * d .row ≡ d .words = whole-rows d r in let m : d .words ≤ mostWords = r .most in omega arith
+
+  -- what reaches to the last configuration word reaches past the rows
+  pub reach-rows : (n : ℕ) → d .words + 9 ≤ n → rows * d .row ≤ n
+  reach-rows n h = let w : rows * d .row ≡ d .words = whole-rows d r in omega arith
 
 -- never more than 2P + 2P/R + 22 steps
 pub update-bound : (d : Device) (image reading : List ℕ) → deviceOk d ≡ true → length (updateSteps d image reading) ≤ 2 * d .words + 2 * (d .words / d .row) + 22

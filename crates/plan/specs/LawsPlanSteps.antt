@@ -1,6 +1,6 @@
 -- The segments of a stream, opened one by one, as loops write them.
 use Prim.Native.Nat.{ℕ, suc, _+_, _-_, _*_, _/_, _≤_, _<_}
-use native.Mathlib.Nat.{suc-mul, mul-le-mul-right}
+use native.Mathlib.Nat.{suc-mul, add-mul, mul-le-mul-right}
 use native.Mathlib.Omega.{arith}
 use mathlib.Core.Path.{_≡_, refl, sym, ap, _∙_}
 use mathlib.Core.Bool.{Bool, true, false}
@@ -157,6 +157,10 @@ body-opens d image reading erase all = refl
 pub read-back-opens : (d : Device) → readBackSteps d ≡ (ResetAddress ∷ []) ++ (reads (d .words) ++ ((LoadConfiguration erased ∷ []) ++ reads 9))
 unfolding readBackSteps
 read-back-opens d = refl
+
+-- a row ends where the next one begins
+pub row-after : (k row : ℕ) → (k + 1) * row ≡ k * row + row
+row-after k row = add-mul k 1 row ∙ (let e : 1 * row ≡ row = omega arith in omega arith)
 
 -- row k of so many ends where the rows do, at the latest
 pub row-inside : (rows row k most : ℕ) → k < rows → rows * row ≤ most → k * row + row ≤ most

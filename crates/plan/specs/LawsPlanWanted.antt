@@ -43,9 +43,6 @@ module _ (image : List ℕ) (i : ℕ) where
   pub given-inside : i < length image → getD image i 0 ≡ getD image i notGiven
   given-inside h = inside image i 0 notGiven h
 
-  pub given-past : length image ≤ i → notGiven ≡ getD image i notGiven
-  given-past h = sym (List·getD-eq-default image notGiven h)
-
 module _ (image reading : List ℕ) (i : ℕ) (given word : ℕ) (e : given ≡ getD image i notGiven) where
   pub wanted-silent : word ≡ known reading i → given ≡ notGiven → word ≡ wanted image reading i
   unfolding wanted
@@ -85,6 +82,10 @@ module _ (words : ℕ) (image reading : List ℕ) (sound : imageOk words image �
       by i (yes e) d = rw (pick-true (eqb (getD image i notGiven) notGiven) (known reading i) (getD image i notGiven) (eq-eqb _ _ e)) (fits i)
       by i (no n) (yes h) = rw (pick-false (eqb (getD image i notGiven) notGiven) (known reading i) (getD image i notGiven) (ne-eqb _ _ n)) (entry-fits i h n)
       by i (no n) (no h) = absurd (n (List·getD-eq-default image notGiven (rw (image-long words image sound) (omega arith))))
+
+-- a judged image reaches to the last configuration word
+pub image-reaches : (words : ℕ) (image : List ℕ) → imageOk words image ≡ true → words + 9 ≤ length image
+image-reaches words image e = let l : length image ≡ words + 9 = image-long words image e in omega arith
 
 known-fits : (n : ℕ) (reading : List ℕ) → wordsOf n reading ≡ true → (i : ℕ) → known reading i < 0x4000
 known-fits n reading e i = by (decLt i (length reading))

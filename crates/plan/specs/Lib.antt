@@ -7,6 +7,7 @@ pub mod LawsPlanWrote
 pub mod LawsPlanSteps
 pub mod LawsPlanWanted
 pub mod LawsPlanBounds
+pub mod LawsPlanCount
 pub mod LawsPlan
 pub mod Demands
 pub mod LawsSome

@@ -8,6 +8,7 @@ use target::Order;
 use words::ERASED;
 ghost use mathlib.Core.Path.{_≡_};
 ghost use Prim.Native.Nat.{_+_, _≤_, _<_};
+ghost use lib.ListN.{length};
 ghost use Rattle.device.specs.Record.{mostWords};
 ghost use Rattle.plan.specs.Wanted.{wanted, some};
 ghost use Rattle.plan.specs.Steps.{wordSteps, writesFrom, configSteps};
@@ -15,8 +16,8 @@ ghost use Rattle.plan.specs.LawsPlanWanted.{Source, chosen};
 ghost use Rattle.plan.specs.LawsPlanWrote.{Wrote, Room, ample};
 
 // Whether word k is written; `all` asks for every user ID.
-fn is_chosen(image: &[u16], reading: &[u16], words: usize, k: usize, all: bool) -> bool
-    requires { ⌜ words + k ≤ ample ⌝ }
+pub(crate) fn is_chosen(image: &[u16], reading: &[u16], words: usize, k: usize, all: bool) -> bool
+    requires { ⌜ (words + k ≤ ample) × (words + 9 ≤ length (now image)) ⌝ }
     ensures { λ r. ⌜ r ≡ chosen all (now (image .entry)) (now (reading .entry)) words k ⌝ }
 {
     if k < 4 {
@@ -35,8 +36,8 @@ fn is_chosen(image: &[u16], reading: &[u16], words: usize, k: usize, all: bool) 
 }
 
 // Whether any word of configuration space is written.
-fn some_chosen(image: &[u16], reading: &[u16], words: usize, all: bool) -> bool
-    requires { ⌜ words ≤ mostWords ⌝ }
+pub(crate) fn some_chosen(image: &[u16], reading: &[u16], words: usize, all: bool) -> bool
+    requires { ⌜ (words ≤ mostWords) × (words + 9 ≤ length (now image)) ⌝ }
     ensures { λ r. ⌜ r ≡ some 9 (chosen all (now (image .entry)) (now (reading .entry)) words) ⌝ }
 {
     let mut k: usize = 0;
@@ -52,7 +53,7 @@ fn some_chosen(image: &[u16], reading: &[u16], words: usize, all: bool) -> bool
 // One word: up to it, load, write.
 fn put_word(out: &mut [u8], steps: usize, word: u16, at: usize, k: usize) -> usize
     requires { ⌜ word < 0x4000 ⌝ }
-    requires { ⌜ Room (wordSteps word at k) steps ⌝ }
+    requires { ⌜ Room (wordSteps word at k) steps (now out) ⌝ }
     ensures { λ r. ⌜ Wrote (wordSteps word at k) steps (now (out .entry)) r (now (out .exit)) ⌝ }
 {
     let there = put_walk(out, steps, at, k);
@@ -70,8 +71,8 @@ fn put_writes(
     all: bool,
 ) -> usize
     requires { ⌜ Source (now image) (now reading) ⌝ }
-    requires { ⌜ words ≤ mostWords ⌝ }
-    requires { ⌜ Room (writesFrom (λ k. wanted (now image) (now reading) (words + k)) (chosen all (now image) (now reading) words) 9 0 0) steps ⌝ }
+    requires { ⌜ (words ≤ mostWords) × (words + 9 ≤ length (now image)) ⌝ }
+    requires { ⌜ Room (writesFrom (λ k. wanted (now image) (now reading) (words + k)) (chosen all (now image) (now reading) words) 9 0 0) steps (now out) ⌝ }
     ensures { λ r. ⌜ Wrote (writesFrom (λ k. wanted (now (image .entry)) (now (reading .entry)) (words + k)) (chosen all (now (image .entry)) (now (reading .entry)) words) 9 0 0) steps (now (out .entry)) r (now (out .exit)) ⌝ }
 {
     let mut done = steps;
@@ -104,8 +105,8 @@ pub(crate) fn put_config(
     all: bool,
 ) -> usize
     requires { ⌜ Source (now image) (now reading) ⌝ }
-    requires { ⌜ words ≤ mostWords ⌝ }
-    requires { ⌜ Room (configSteps all (λ k. wanted (now image) (now reading) (words + k)) (chosen all (now image) (now reading) words)) steps ⌝ }
+    requires { ⌜ (words ≤ mostWords) × (words + 9 ≤ length (now image)) ⌝ }
+    requires { ⌜ Room (configSteps all (λ k. wanted (now image) (now reading) (words + k)) (chosen all (now image) (now reading) words)) steps (now out) ⌝ }
     ensures { λ r. ⌜ Wrote (configSteps all (λ k. wanted (now (image .entry)) (now (reading .entry)) (words + k)) (chosen all (now (image .entry)) (now (reading .entry)) words)) steps (now (out .entry)) r (now (out .exit)) ⌝ }
 {
     if some_chosen(image, reading, words, all) {} else {

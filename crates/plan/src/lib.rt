@@ -1,5 +1,6 @@
 // The three streams: update, fresh and read-back. No public call here has a `requires`.
 mod config;
+mod count;
 mod orders;
 mod planner;
 mod refusal;

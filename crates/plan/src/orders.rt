@@ -1,5 +1,5 @@
-// Steps put into a stream. Each writer takes the number of steps before its own and answers the number after them; a byte past the buffer's end is
-// left out, so that a count of steps needs no buffer.
+// Steps put into a stream. Each writer takes the number of steps before its own and answers the number after them; its caller has counted them and
+// knows that they fit, so that no store tests for room.
 use target::Order;
 ghost use mathlib.Core.Path.{_≡_};
 ghost use mathlib.Core.List.{[], _∷_};
@@ -45,20 +45,20 @@ fn payload_of(o: Order) -> u16
 // One step: code, payload low, payload high.
 pub(crate) fn put_order(out: &mut [u8], steps: usize, o: Order) -> usize
     requires { ⌜ FitsOrder o ⌝ }
-    requires { ⌜ Room (o ∷ []) steps ⌝ }
+    requires { ⌜ Room (o ∷ []) steps (now out) ⌝ }
     ensures { λ r. ⌜ Wrote (o ∷ []) steps (now (out .entry)) r (now (out .exit)) ⌝ }
 {
     let at = 3 * steps;
     let payload = payload_of(o);
-    words::hex::put(out, at, code_of(o));
-    words::hex::put(out, at + 1, (payload % 256) as u8);
-    words::hex::put(out, at + 2, (payload / 256) as u8);
+    out[at] = code_of(o);
+    out[at + 1] = (payload % 256) as u8;
+    out[at + 2] = (payload / 256) as u8;
     steps + 1
 }
 
 // Increments from one place up to another.
 pub(crate) fn put_walk(out: &mut [u8], steps: usize, from: usize, to: usize) -> usize
-    requires { ⌜ Room (walk from to) steps ⌝ }
+    requires { ⌜ Room (walk from to) steps (now out) ⌝ }
     ensures { λ r. ⌜ Wrote (walk from to) steps (now (out .entry)) r (now (out .exit)) ⌝ }
 {
     let mut done = steps;
@@ -72,7 +72,7 @@ pub(crate) fn put_walk(out: &mut [u8], steps: usize, from: usize, to: usize) -> 
 
 // Row Erase where it is asked for.
 pub(crate) fn put_erase(out: &mut [u8], steps: usize, erase: bool) -> usize
-    requires { ⌜ Room (erasing erase) steps ⌝ }
+    requires { ⌜ Room (erasing erase) steps (now out) ⌝ }
     ensures { λ r. ⌜ Wrote (erasing erase) steps (now (out .entry)) r (now (out .exit)) ⌝ }
 {
     if erase {
@@ -84,7 +84,7 @@ pub(crate) fn put_erase(out: &mut [u8], steps: usize, erase: bool) -> usize
 // Reads of so many words, with an Increment between each two.
 pub(crate) fn put_reads(out: &mut [u8], steps: usize, count: usize) -> usize
     requires { ⌜ 0 < count ⌝ }
-    requires { ⌜ Room (reads count) steps ⌝ }
+    requires { ⌜ Room (reads count) steps (now out) ⌝ }
     ensures { λ r. ⌜ Wrote (reads count) steps (now (out .entry)) r (now (out .exit)) ⌝ }
 {
     let mut done = steps;

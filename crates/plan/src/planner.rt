@@ -1,6 +1,9 @@
-// The public calls: a stream is judged, counted, and only then written. The count is the writer's own, on a buffer that takes next to nothing.
+// The public calls: a stream is judged, counted by arithmetic, and only then written, into a buffer that is known to take it.
 use crate::Planned;
 use crate::config::put_config;
+use crate::count::fresh_length;
+use crate::count::read_back_length;
+use crate::count::update_length;
 use crate::orders::put_order;
 use crate::orders::put_reads;
 use crate::refusal::fresh_refusal;
@@ -11,6 +14,8 @@ use device::Device;
 use target::Order;
 use words::ERASED;
 ghost use mathlib.Core.List.{[]};
+ghost use Prim.Native.Nat.{_+_, _≤_};
+ghost use lib.ListN.{length};
 ghost use Rattle.device.specs.LawsRecord.{Rules};
 ghost use Rattle.plan.specs.Steps.{updateSteps, freshSteps, readBackSteps};
 ghost use Rattle.plan.specs.Answers.{updateNumber, freshNumber, readBackNumber, Plans};
@@ -26,8 +31,7 @@ pub fn update(d: Device, image: &[u16], reading: &[u16], out: &mut [u8]) -> Plan
     if number != 0 {
         return Planned { number, steps: 0 };
     }
-    let mut scratch = [0u8; 1];
-    let need = put_update(&mut scratch, d, image, reading);
+    let need = update_length(d, image, reading);
     if out.len() < 3 * need {
         return Planned {
             number: 26,
@@ -46,8 +50,7 @@ pub fn fresh(d: Device, image: &[u16], id_word: u16, out: &mut [u8]) -> Planned
     if number != 0 {
         return Planned { number, steps: 0 };
     }
-    let mut scratch = [0u8; 1];
-    let need = put_fresh(&mut scratch, d, image);
+    let need = fresh_length(d, image);
     if out.len() < 3 * need {
         return Planned {
             number: 26,
@@ -68,8 +71,7 @@ pub fn read_back(d: Device, out: &mut [u8]) -> Planned
             steps: 0,
         };
     }
-    let mut scratch = [0u8; 1];
-    let need = put_read_back(&mut scratch, d);
+    let need = read_back_length(d);
     if out.len() < 3 * need {
         return Planned {
             number: 26,
@@ -83,7 +85,9 @@ pub fn read_back(d: Device, out: &mut [u8]) -> Planned
 // The update's steps, from the first on.
 fn put_update(out: &mut [u8], d: Device, image: &[u16], reading: &[u16]) -> usize
     requires { ⌜ Rules d ⌝ }
+    requires { ⌜ d .words + 9 ≤ length (now image) ⌝ }
     requires { ⌜ Source (now image) (now reading) ⌝ }
+    requires { ⌜ Room (updateSteps d (now image) (now reading)) 0 (now out) ⌝ }
     ensures { λ r. ⌜ Wrote (updateSteps d (now (image .entry)) (now (reading .entry))) 0 (now (out .entry)) r (now (out .exit)) ⌝ }
 {
     let ids = some_differ(image, reading, d.words as usize, 4);
@@ -94,7 +98,9 @@ fn put_update(out: &mut [u8], d: Device, image: &[u16], reading: &[u16]) -> usiz
 // The fresh stream's steps: the empty part of the image stands for the reading that there is not.
 fn put_fresh(out: &mut [u8], d: Device, image: &[u16]) -> usize
     requires { ⌜ Rules d ⌝ }
+    requires { ⌜ d .words + 9 ≤ length (now image) ⌝ }
     requires { ⌜ Source (now image) [] ⌝ }
+    requires { ⌜ Room (freshSteps d (now image)) 0 (now out) ⌝ }
     ensures { λ r. ⌜ Wrote (freshSteps d (now (image .entry))) 0 (now (out .entry)) r (now (out .exit)) ⌝ }
 {
     let config = put_order(out, 0, Order::LoadConfiguration(ERASED));
@@ -114,8 +120,9 @@ fn put_body(
     all: bool,
 ) -> usize
     requires { ⌜ Rules d ⌝ }
+    requires { ⌜ d .words + 9 ≤ length (now image) ⌝ }
     requires { ⌜ Source (now image) (now reading) ⌝ }
-    requires { ⌜ Room (bodySteps d (now image) (now reading) erase all) steps ⌝ }
+    requires { ⌜ Room (bodySteps d (now image) (now reading) erase all) steps (now out) ⌝ }
     ensures { λ r. ⌜ Wrote (bodySteps d (now (image .entry)) (now (reading .entry)) erase all) steps (now (out .entry)) r (now (out .exit)) ⌝ }
 {
     let words = d.words as usize;
@@ -127,6 +134,7 @@ fn put_body(
 // The read-back's steps, program words before configuration space.
 fn put_read_back(out: &mut [u8], d: Device) -> usize
     requires { ⌜ Rules d ⌝ }
+    requires { ⌜ Room (readBackSteps d) 0 (now out) ⌝ }
     ensures { λ r. ⌜ Wrote (readBackSteps d) 0 (now (out .entry)) r (now (out .exit)) ⌝ }
 {
     let reset = put_order(out, 0, Order::ResetAddress);

@@ -17,6 +17,7 @@ fn can_write(wanted: u16, reading: u16) -> bool
 // Both configuration words, since nothing erases them in an update.
 fn config_ok(d: Device, image: &[u16], reading: &[u16]) -> bool
     requires { ⌜ length (now reading) ≡ d .words + 9 ⌝ }
+    requires { ⌜ length (now image) ≡ d .words + 9 ⌝ }
     ensures { λ r. ⌜ r ≡ configOk d (now (image .entry)) (now (reading .entry)) ⌝ }
 {
     let first = (d.words as usize) + 7;

@@ -7,6 +7,7 @@ use crate::source::wanted_word;
 use target::Order;
 ghost use mathlib.Core.List.{[], _∷_};
 ghost use Prim.Native.Nat.{_+_, _*_, _≤_, _<_};
+ghost use lib.ListN.{length};
 ghost use Rattle.device.specs.Record.{mostWords};
 ghost use Rattle.target.specs.declared.Order.the-variants.{LoadData};
 ghost use Rattle.plan.specs.Wanted.{wanted};
@@ -17,7 +18,8 @@ ghost use Rattle.plan.specs.LawsPlanWrote.{Wrote, Room, ample};
 // One wanted word loaded; that it has 14 bits is what the judged image and reading are for.
 fn put_load(out: &mut [u8], steps: usize, image: &[u16], reading: &[u16], i: usize) -> usize
     requires { ⌜ Source (now image) (now reading) ⌝ }
-    requires { ⌜ Room (LoadData (wanted (now image) (now reading) i) ∷ []) steps ⌝ }
+    requires { ⌜ i < length (now image) ⌝ }
+    requires { ⌜ Room (LoadData (wanted (now image) (now reading) i) ∷ []) steps (now out) ⌝ }
     ensures { λ r. ⌜ Wrote (LoadData (wanted (now (image .entry)) (now (reading .entry)) i) ∷ []) steps (now (out .entry)) r (now (out .exit)) ⌝ }
 {
     put_order(out, steps, Order::LoadData(wanted_word(image, reading, i)))
@@ -33,8 +35,8 @@ fn put_loads(
     count: usize,
 ) -> usize
     requires { ⌜ Source (now image) (now reading) ⌝ }
-    requires { ⌜ (0 < count) × (first + count ≤ ample) ⌝ }
-    requires { ⌜ Room (loads (wanted (now image) (now reading)) first count) steps ⌝ }
+    requires { ⌜ (0 < count) × (first + count ≤ ample) × (first + count ≤ length (now image)) ⌝ }
+    requires { ⌜ Room (loads (wanted (now image) (now reading)) first count) steps (now out) ⌝ }
     ensures { λ r. ⌜ Wrote (loads (wanted (now (image .entry)) (now (reading .entry))) first count) steps (now (out .entry)) r (now (out .exit)) ⌝ }
 {
     let mut done = steps;
@@ -61,8 +63,8 @@ fn put_row(
     erase: bool,
 ) -> usize
     requires { ⌜ Source (now image) (now reading) ⌝ }
-    requires { ⌜ (0 < count) × (first + count ≤ ample) ⌝ }
-    requires { ⌜ Room (rowSteps erase (wanted (now image) (now reading)) at first count) steps ⌝ }
+    requires { ⌜ (0 < count) × (first + count ≤ ample) × (first + count ≤ length (now image)) ⌝ }
+    requires { ⌜ Room (rowSteps erase (wanted (now image) (now reading)) at first count) steps (now out) ⌝ }
     ensures { λ r. ⌜ Wrote (rowSteps erase (wanted (now (image .entry)) (now (reading .entry))) at first count) steps (now (out .entry)) r (now (out .exit)) ⌝ }
 {
     let there = put_walk(out, steps, at, first);
@@ -82,8 +84,8 @@ pub(crate) fn put_rows(
     erase: bool,
 ) -> usize
     requires { ⌜ Source (now image) (now reading) ⌝ }
-    requires { ⌜ (0 < row) × (rows * row ≤ mostWords) ⌝ }
-    requires { ⌜ Room (rowsFrom erase (wanted (now image) (now reading)) (rowChanges (now image) (now reading) row) row rows 0 0) steps ⌝ }
+    requires { ⌜ (0 < row) × (rows * row ≤ mostWords) × (rows * row ≤ length (now image)) ⌝ }
+    requires { ⌜ Room (rowsFrom erase (wanted (now image) (now reading)) (rowChanges (now image) (now reading) row) row rows 0 0) steps (now out) ⌝ }
     ensures { λ r. ⌜ Wrote (rowsFrom erase (wanted (now (image .entry)) (now (reading .entry))) (rowChanges (now (image .entry)) (now (reading .entry)) row) row rows 0 0) steps (now (out .entry)) r (now (out .exit)) ⌝ }
 {
     let mut done = steps;

@@ -14,7 +14,7 @@ returns : tie.Need-returns
 returns c = wrote-same _ _ _ _ _ _ (sym (config-no _ _ _ (sym (c .before .some-chosen .ensures) ∙ c .if1 .left))) (wrote-none _ _)
 
 put-order-requires : tie.Need-put-order-requires
-put-order-requires c κs = (omega arith, room-first _ _ _ _ (config-yes _ _ _ (sym (c .before .before .some-chosen .ensures) ∙ c .before .if1 .taken)) (c .before .before .before .before .before .before .pre .1 .1))
+put-order-requires c κs = (omega arith, room-first _ _ _ _ _ (config-yes _ _ _ (sym (c .before .before .some-chosen .ensures) ∙ c .before .if1 .taken)) (c .before .before .before .before .before .before .pre .1 .1))
 
 put-erase-requires : tie.Need-put-erase-requires
 put-erase-requires c κs = room-part _ _ _ _ _ _ _ (left-then _ _ _ _ _ _ _ _ _ (left-same _ _ _ _ _ _ _ (config-yes _ _ _ (sym (c .before .before .before .before .before .before .some-chosen .ensures) ∙ c .before .before .before .before .before .if1 .taken)) (left-all _ _ _)) (c .before .before .before .put-order .ensures)) (c .before .before .before .before .before .before .before .before .before .before .pre .1 .1)

@@ -6,7 +6,7 @@ use Rattle.plan.proofs.config.put_word.Statement.{statement}
 use Rattle.plan.proofs.config.put_word.Tie as tie
 
 put-walk-requires : tie.Need-put-walk-requires
-put-walk-requires c κs = room-first _ _ _ _ (word-opens _ _ _) (c .before .before .pre .1)
+put-walk-requires c κs = room-first _ _ _ _ _ (word-opens _ _ _) (c .before .before .pre .1)
 
 put-order-requires : tie.Need-put-order-requires
 put-order-requires c κs = (c .before .before .before .before .before .before .pre .0, room-part _ _ _ _ _ _ _ (left-then _ _ _ _ _ _ _ _ _ (left-same _ _ _ _ _ _ _ (word-opens _ _ _) (left-all _ _ _)) (c .before .before .before .put-walk .ensures)) (c .before .before .before .before .before .before .pre .1))

@@ -25,16 +25,16 @@ add-k : tie.Need-add-k Inv-loop μ-loop
 add-k c = omega arith
 
 is-chosen-requires : tie.Need-is-chosen-requires Inv-loop μ-loop
-is-chosen-requires c κs = omega arith
+is-chosen-requires c κs = (omega arith, c .before .before .before .before .before .pre .1 .0 .1)
 
 add-wanted-word : tie.Need-add-wanted-word Inv-loop μ-loop
 add-wanted-word c = omega arith
 
 wanted-word-requires : tie.Need-wanted-word-requires Inv-loop μ-loop
-wanted-word-requires c κs = search needs
+wanted-word-requires c κs = omega arith
 
 put-word-requires : tie.Need-put-word-requires Inv-loop μ-loop
-put-word-requires c κs = (rw (c .wanted-word .ensures) (c .before .before .before .before .before .before .before .before .before .pre .0 .fits _), room-same _ _ _ (word-same _ _ _ _ (sym (c .wanted-word .ensures))) (room-part _ _ _ _ _ _ _ (left-same _ _ _ _ _ _ _ (writes-yes _ _ _ _ _ (c .before .before .before .before .loop-test .taken) (sym (c .before .before .before .is-chosen .ensures) ∙ c .before .before .if1 .taken)) (c .before .before .before .before .before .loop .inv .2)) (c .before .before .before .before .before .before .before .before .before .pre .1 .1)))
+put-word-requires c κs = (rw (c .wanted-word .ensures) (c .before .before .before .before .before .before .before .before .before .pre .0 .fits _), room-same _ _ _ _ (word-same _ _ _ _ (sym (c .wanted-word .ensures))) (room-part _ _ _ _ _ _ _ (left-same _ _ _ _ _ _ _ (writes-yes _ _ _ _ _ (c .before .before .before .before .loop-test .taken) (sym (c .before .before .before .is-chosen .ensures) ∙ c .before .before .if1 .taken)) (c .before .before .before .before .before .loop .inv .2)) (c .before .before .before .before .before .before .before .before .before .pre .1 .1)))
 
 loop-less : tie.Need-loop-less Inv-loop μ-loop
 loop-less c = omega arith

@@ -19,7 +19,7 @@ loop-holds : tie.Need-loop-holds Inv-loop μ-loop
 loop-holds c = (search needs, some-none _)
 
 is-chosen-requires : tie.Need-is-chosen-requires Inv-loop μ-loop
-is-chosen-requires c κs = omega arith
+is-chosen-requires c κs = (omega arith, c .before .before .before .before .pre .1)
 
 returns : tie.Need-returns Inv-loop μ-loop
 returns c = sym (some-at _ _ _ (c .before .before .loop-test .taken) (sym (c .before .is-chosen .ensures) ∙ c .if1 .taken))

@@ -7,7 +7,7 @@ use Rattle.plan.proofs.orders.put_erase.Statement.{statement}
 use Rattle.plan.proofs.orders.put_erase.Tie as tie
 
 put-order-requires : tie.Need-put-order-requires
-put-order-requires c κs = (tt, room-same _ _ _ (erasing-yes _ (c .before .if1 .taken)) (c .before .before .before .pre))
+put-order-requires c κs = (tt, room-same _ _ _ _ (erasing-yes _ (c .before .if1 .taken)) (c .before .before .before .pre))
 
 same-length : tie.Need-same-length
 same-length c = search needs

@@ -1,4 +1,6 @@
 -- The three bytes of a step.
+use native.Mathlib.Omega.{arith}
+use lib.ListN.{length-set}
 use Rattle.plan.specs.LawsPlanWrote.{wrote-one}
 use borrow.Author.Needs.{needs}
 use Rattle.plan.proofs.orders.put_order.Statement.{statement}
@@ -13,26 +15,26 @@ payload-of-requires c κs = search needs
 code-of-requires : tie.Need-code-of-requires
 code-of-requires c κs = search needs
 
-put-requires : tie.Need-put-requires
-put-requires c κs = search needs
+slice-write-out : tie.Need-slice-write-out
+slice-write-out c = search needs
 
-add-put : tie.Need-add-put
-add-put c = search needs
+cast-out : tie.Need-cast-out
+cast-out c = search needs
 
-cast-put : tie.Need-cast-put
-cast-put c = search needs
+add-out : tie.Need-add-out
+add-out c = search needs
 
-put-requires-2 : tie.Need-put-requires-2
-put-requires-2 c κs = search needs
+slice-write-out-2 : tie.Need-slice-write-out-2
+slice-write-out-2 c = rw length-set (omega arith)
 
-add-put-2 : tie.Need-add-put-2
-add-put-2 c = search needs
+cast-out-2 : tie.Need-cast-out-2
+cast-out-2 c = search needs
 
-cast-put-2 : tie.Need-cast-put-2
-cast-put-2 c = search needs
+add-out-2 : tie.Need-add-out-2
+add-out-2 c = search needs
 
-put-requires-3 : tie.Need-put-requires-3
-put-requires-3 c κs = search needs
+slice-write-out-3 : tie.Need-slice-write-out-3
+slice-write-out-3 c = rw (length-set, length-set) (omega arith)
 
 add-result : tie.Need-add-result
 add-result c = search needs
@@ -41,7 +43,7 @@ same-length : tie.Need-same-length
 same-length c = search needs
 
 returns : tie.Need-returns
-returns c = wrote-one _ _ _ _ _ _ _ _ (c .before .before .before .before .before .before .before .before .before .before .before .code-of .ensures) (c .before .before .before .before .before .before .before .before .before .before .before .before .before .payload-of .ensures) (c .before .before .before .before .before .before .before .before .before .before .put .ensures) (c .before .before .before .before .before .before .put2 .ensures) (c .before .before .put3 .ensures)
+returns c = wrote-one _ _ _ _ _ (c .code-of .ensures) (c .before .payload-of .ensures)
 
 pub put-order-spec : {M : Type 1} → statement M
 put-order-spec =
@@ -50,13 +52,13 @@ put-order-spec =
     mul-at
     payload-of-requires
     code-of-requires
-    put-requires
-    add-put
-    cast-put
-    put-requires-2
-    add-put-2
-    cast-put-2
-    put-requires-3
+    slice-write-out
+    cast-out
+    add-out
+    slice-write-out-2
+    cast-out-2
+    add-out-2
+    slice-write-out-3
     add-result
     same-length
     returns)

@@ -1,7 +1,6 @@
 -- Reset, and what both streams have.
 use Rattle.plan.specs.LawsPlanSteps.{update-opens}
-use Rattle.plan.specs.LawsPlanBounds.{update-room}
-use Rattle.plan.specs.LawsPlanWrote.{left-all, left-same, left-then, left-done, room-rest}
+use Rattle.plan.specs.LawsPlanWrote.{left-all, left-same, left-then, left-done, room-first, room-rest}
 use borrow.Author.Needs.{needs}
 use Rattle.plan.proofs.planner.put_update.Statement.{statement}
 use Rattle.plan.proofs.planner.put_update.Tie as tie
@@ -13,10 +12,10 @@ some-differ-requires : tie.Need-some-differ-requires
 some-differ-requires c κs = search needs
 
 put-order-requires : tie.Need-put-order-requires
-put-order-requires c κs = search needs
+put-order-requires c κs = (tt, room-first _ _ _ _ _ (update-opens _ _ _ _ (c .before .some-differ .ensures)) (c .before .before .before .before .before .before .pre .1 .1 .1))
 
 put-body-requires : tie.Need-put-body-requires
-put-body-requires c κs = (c .before .before .before .before .before .before .before .before .before .before .pre .0, (c .before .before .before .before .before .before .before .before .before .before .pre .1, room-rest _ _ _ _ _ _ (left-then _ _ _ _ _ _ _ _ _ (left-same _ _ _ _ _ _ _ (update-opens _ _ _ _ (c .before .before .before .before .before .some-differ .ensures)) (left-all _ _ _)) (c .before .before .before .put-order .ensures)) (update-room _ (c .before .before .before .before .before .before .before .before .before .before .pre .0) _ _)))
+put-body-requires c κs = (c .before .before .before .before .before .before .before .before .before .before .pre .0, (c .before .before .before .before .before .before .before .before .before .before .pre .1 .0, (c .before .before .before .before .before .before .before .before .before .before .pre .1 .1 .0, room-rest _ _ _ _ _ _ (left-then _ _ _ _ _ _ _ _ _ (left-same _ _ _ _ _ _ _ (update-opens _ _ _ _ (c .before .before .before .before .before .some-differ .ensures)) (left-all _ _ _)) (c .before .before .before .put-order .ensures)) (c .before .before .before .before .before .before .before .before .before .before .pre .1 .1 .1))))
 
 same-length : tie.Need-same-length
 same-length c = search needs

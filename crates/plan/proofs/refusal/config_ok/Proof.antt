@@ -26,7 +26,7 @@ can-write-requires : tie.Need-can-write-requires
 can-write-requires c κs = search needs
 
 returns : tie.Need-returns
-returns c = config-first _ _ _ (c .before .before .before .before .before .before .before .before .pre) _ _ (c .before .before .before .wanted-word .ensures) (c .before .before .known-word .ensures) _ (c .before .can-write .ensures) (c .if1 .left)
+returns c = config-first _ _ _ (c .before .before .before .before .before .before .before .before .pre .0) _ _ (c .before .before .before .wanted-word .ensures) (c .before .before .known-word .ensures) _ (c .before .can-write .ensures) (c .if1 .left)
 
 wanted-word-requires-2 : tie.Need-wanted-word-requires-2
 wanted-word-requires-2 c κs = search needs
@@ -38,7 +38,7 @@ can-write-requires-2 : tie.Need-can-write-requires-2
 can-write-requires-2 c κs = search needs
 
 returns-2 : tie.Need-returns-2
-returns-2 c = config-both _ _ _ (c .before .before .before .before .before .before .before .before .before .before .before .pre) _ _ (c .before .before .before .before .before .before .wanted-word .ensures) (c .before .before .before .before .before .known-word .ensures) _ (c .before .before .before .before .can-write .ensures) (c .before .before .before .if1 .taken) _ _ (c .before .before .wanted-word2 .ensures) (c .before .known-word2 .ensures) _ (c .can-write2 .ensures)
+returns-2 c = config-both _ _ _ (c .before .before .before .before .before .before .before .before .before .before .before .pre .0) _ _ (c .before .before .before .before .before .before .wanted-word .ensures) (c .before .before .before .before .before .known-word .ensures) _ (c .before .before .before .before .can-write .ensures) (c .before .before .before .if1 .taken) _ _ (c .before .before .wanted-word2 .ensures) (c .before .known-word2 .ensures) _ (c .can-write2 .ensures)
 
 pub config-ok-spec : {M : Type 1} → statement M
 config-ok-spec =

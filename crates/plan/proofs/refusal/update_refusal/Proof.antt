@@ -1,6 +1,7 @@
 -- One law for each refusal.
 use mathlib.Core.Path.{sym, _∙_}
 use Rattle.words.specs.LawsWord.{words-long}
+use Rattle.device.specs.LawsMemory.{image-long}
 use Rattle.plan.specs.LawsPlan.{update-13, update-20, update-21, update-22, update-23, update-24, update-0, judged-ok, judged-bad, as-reading}
 use borrow.Author.Needs.{needs}
 use Rattle.plan.proofs.refusal.update_refusal.Statement.{statement}
@@ -49,7 +50,7 @@ returns-5 : tie.Need-returns-5
 returns-5 c = update-23 _ _ _ (judged-ok _ _ (c .before .before .before .before .before .before .before .before .before .before .before .judge .ensures) (c .before .before .before .before .before .before .before .before .before .before .if1 .left)) (sym (c .before .before .before .before .before .before .before .before .before .is-image .ensures) ∙ c .before .before .before .before .before .before .before .before .if2 .taken) (as-reading _ _ ∙ (sym (c .before .before .before .before .before .before .is-words .ensures) ∙ c .before .before .before .before .before .if3 .taken)) _ (c .before .before .before .before .known-word .ensures) (c .before .before .if4 .left) _ (c .before .known-word2 .ensures) (c .if5 .taken)
 
 config-ok-requires : tie.Need-config-ok-requires
-config-ok-requires c κs = words-long _ _ (sym (c .before .before .before .before .before .before .is-words .ensures) ∙ c .before .before .before .before .before .if3 .taken)
+config-ok-requires c κs = (words-long _ _ (sym (c .before .before .before .before .before .before .is-words .ensures) ∙ c .before .before .before .before .before .if3 .taken), image-long _ _ (sym (c .before .before .before .before .before .before .before .before .before .is-image .ensures) ∙ c .before .before .before .before .before .before .before .before .if2 .taken))
 
 returns-6 : tie.Need-returns-6
 returns-6 c = update-24 _ _ _ (judged-ok _ _ (c .before .before .before .before .before .before .before .before .before .before .before .before .before .judge .ensures) (c .before .before .before .before .before .before .before .before .before .before .before .before .if1 .left)) (sym (c .before .before .before .before .before .before .before .before .before .before .before .is-image .ensures) ∙ c .before .before .before .before .before .before .before .before .before .before .if2 .taken) (as-reading _ _ ∙ (sym (c .before .before .before .before .before .before .before .before .is-words .ensures) ∙ c .before .before .before .before .before .before .before .if3 .taken)) _ (c .before .before .before .before .before .before .known-word .ensures) (c .before .before .before .before .if4 .left) _ (c .before .before .before .known-word2 .ensures) (c .before .before .if5 .left) (sym (c .before .config-ok .ensures) ∙ c .if6 .left)

@@ -6,7 +6,7 @@ use Rattle.plan.proofs.rows.put_row.Statement.{statement}
 use Rattle.plan.proofs.rows.put_row.Tie as tie
 
 put-walk-requires : tie.Need-put-walk-requires
-put-walk-requires c κs = room-first _ _ _ _ (row-opens _ _ _ _ _) (c .before .before .before .before .pre .1 .1)
+put-walk-requires c κs = room-first _ _ _ _ _ (row-opens _ _ _ _ _) (c .before .before .before .before .pre .1 .1)
 
 put-erase-requires : tie.Need-put-erase-requires
 put-erase-requires c κs = room-part _ _ _ _ _ _ _ (left-then _ _ _ _ _ _ _ _ _ (left-same _ _ _ _ _ _ _ (row-opens _ _ _ _ _) (left-all _ _ _)) (c .before .before .before .put-walk .ensures)) (c .before .before .before .before .before .before .before .before .pre .1 .1)

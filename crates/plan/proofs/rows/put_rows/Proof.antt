@@ -29,11 +29,14 @@ add-k : tie.Need-add-k Inv-loop μ-loop
 add-k c = omega arith
 
 some-differ-requires : tie.Need-some-differ-requires Inv-loop μ-loop
-some-differ-requires c κs = let m = row-inside _ _ _ _ (c .loop-test .taken) (c .before .before .before .before .before .pre .1 .0 .1) in omega arith
+some-differ-requires c κs = let m = row-inside _ _ _ _ (c .loop-test .taken) (c .before .before .before .before .before .pre .1 .0 .1) in
+    let n = row-inside _ _ _ _ (c .loop-test .taken) (c .before .before .before .before .before .pre .1 .0 .2) in
+    (omega arith, omega arith)
 
 put-row-requires : tie.Need-put-row-requires Inv-loop μ-loop
 put-row-requires c κs = let m = row-inside _ _ _ _ (c .before .before .before .loop-test .taken) (c .before .before .before .before .before .before .before .before .pre .1 .0 .1) in
-    (c .before .before .before .before .before .before .before .before .pre .0, ((c .before .before .before .before .before .before .before .before .pre .1 .0 .0, omega arith), room-part _ _ _ _ _ _ _ (left-same _ _ _ _ _ _ _ (rows-yes _ _ _ _ _ _ _ (c .before .before .before .loop-test .taken) (sym (row-changes-is _ _ _ _) ∙ (sym (c .before .before .some-differ .ensures) ∙ c .before .if1 .taken))) (c .before .before .before .before .loop .inv .2)) (c .before .before .before .before .before .before .before .before .pre .1 .1)))
+    let n = row-inside _ _ _ _ (c .before .before .before .loop-test .taken) (c .before .before .before .before .before .before .before .before .pre .1 .0 .2) in
+    (c .before .before .before .before .before .before .before .before .pre .0, ((c .before .before .before .before .before .before .before .before .pre .1 .0 .0, omega arith, omega arith), room-part _ _ _ _ _ _ _ (left-same _ _ _ _ _ _ _ (rows-yes _ _ _ _ _ _ _ (c .before .before .before .loop-test .taken) (sym (row-changes-is _ _ _ _) ∙ (sym (c .before .before .some-differ .ensures) ∙ c .before .if1 .taken))) (c .before .before .before .before .loop .inv .2)) (c .before .before .before .before .before .before .before .before .pre .1 .1)))
 
 sub-at : tie.Need-sub-at Inv-loop μ-loop
 sub-at c = omega arith

@@ -1,0 +1,13 @@
+-- One step or none.
+use Rattle.plan.specs.LawsPlanCount.{erase-counted, no-erase-counted}
+use Rattle.plan.proofs.count.erase_length.Statement.{statement}
+use Rattle.plan.proofs.count.erase_length.Tie as tie
+
+returns : tie.Need-returns
+returns c = erase-counted _ (c .if1 .taken)
+
+returns-2 : tie.Need-returns-2
+returns-2 c = no-erase-counted _ (c .if1 .left)
+
+pub erase-length-spec : {M : Type 1} → statement M
+erase-length-spec = tie.close (tie.spec returns returns-2)
