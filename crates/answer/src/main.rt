@@ -5,6 +5,7 @@ mod of_bench;
 mod of_device;
 mod of_ihex;
 mod of_judge;
+mod of_lent;
 mod of_plan;
 mod of_sheet;
 mod of_target;

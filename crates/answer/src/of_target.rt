@@ -10,6 +10,13 @@ use target::Registers;
 use target::Stepped;
 use words::WordAddress;
 
+// How a step is made: on registers that go by value, on lent ones, and by the method of lent ones.
+pub(crate) const BY_VALUE: usize = 0;
+
+pub(crate) const LENT: usize = 1;
+
+pub(crate) const METHOD: usize = 2;
+
 // The end of the answer to a request of the crate target.
 pub(crate) fn answer(
     name: &[u8],
@@ -21,13 +28,21 @@ pub(crate) fn answer(
     out: &mut [u8],
 ) -> usize {
     match name::place(b"target.step target.run", name) {
-        0 => ask_step(line, at, w, v, out),
+        0 => ask_step(BY_VALUE, line, at, w, v, out),
         1 => ask_run(line, at, a, w, v, out),
         _ => UNKNOWN,
     }
 }
 
-fn ask_step(line: &[u8], at: usize, w: &mut [u16], v: &mut [u16], out: &mut [u8]) -> usize {
+// Asks for one step, made in one of three ways.
+pub(crate) fn ask_step(
+    way: usize,
+    line: &[u8],
+    at: usize,
+    w: &mut [u16],
+    v: &mut [u16],
+    out: &mut [u8],
+) -> usize {
     let d = fields::device(line, at);
     let counter = fields::short(line, d.at);
     let mut latches = [0u16; 32];
@@ -46,6 +61,7 @@ fn ask_step(line: &[u8], at: usize, w: &mut [u16], v: &mut [u16], out: &mut [u8]
         latches,
     };
     tell_step(
+        way,
         out,
         at,
         d.device,
@@ -58,6 +74,7 @@ fn ask_step(line: &[u8], at: usize, w: &mut [u16], v: &mut [u16], out: &mut [u8]
 }
 
 fn tell_step(
+    way: usize,
     out: &mut [u8],
     at: usize,
     d: Device,
@@ -67,10 +84,26 @@ fn tell_step(
     words: &mut [u16],
     cells: &mut [u16],
 ) -> usize {
-    let s = target::step(d, r, code, payload, words, cells);
+    let s = make_step(way, d, r, code, payload, words, cells);
     let first = put_stepped(out, at, s);
     let second = put::words(out, first, words);
     put::words(out, second, cells)
+}
+
+fn make_step(
+    way: usize,
+    d: Device,
+    r: Registers,
+    code: u8,
+    payload: u16,
+    words: &mut [u16],
+    cells: &mut [u16],
+) -> Stepped {
+    match way {
+        BY_VALUE => target::step(d, r, code, payload, words, cells),
+        LENT => lent::step_on(d, r, code, payload, words, cells),
+        _ => lent::step_method(d, r, code, payload, words, cells),
+    }
 }
 
 fn put_stepped(out: &mut [u8], at: usize, s: Stepped) -> usize {

@@ -5,6 +5,7 @@ use crate::of_bench;
 use crate::of_device;
 use crate::of_ihex;
 use crate::of_judge;
+use crate::of_lent;
 use crate::of_plan;
 use crate::of_sheet;
 use crate::of_target;
@@ -43,6 +44,7 @@ fn answer_to(
         5 => of_target::answer(name, line, at, a, w, v, out),
         6 => of_plan::answer(name, line, at, a, w, v, out),
         7 => of_bench::answer(name, line, at, a, out),
+        8 => of_lent::answer(name, line, at, a, w, v, out),
         _ => UNKNOWN,
     }
 }
@@ -51,7 +53,7 @@ fn answer_to(
 fn of_crate(name: &[u8]) -> usize {
     let dot = name::before(name, b'.');
     name::place(
-        b"words device judge sheet ihex target plan bench",
+        b"words device judge sheet ihex target plan bench lent",
         &name[..dot],
     )
 }

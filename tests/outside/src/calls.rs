@@ -23,7 +23,7 @@ pub struct Call {
 
 /// What 0 and 1 mean for calls that give no refusal numbers.
 pub const CLASSES: &str =
-    "words.*, next_line, line_from: 0 found or done, 1 nothing there (no room); is_words, is_image: the answer";
+    "words.*, next_line, line_from, first_number: 0 found or done, 1 nothing there (no room); is_words, is_image: the answer";
 
 #[derive(Clone, Debug)]
 pub struct Request {
@@ -253,6 +253,29 @@ fn next_line(f: &[Field]) -> Reply {
         None => reply(1, vec![at.into(), at.into(), at.into(), line.into()]),
     }
 }
+
+/// The number of the first line: 1, or 0 where the text has none.
+fn first_number(f: &[Field]) -> Reply {
+    let number: u32 = (!field::bytes(f, 0).is_empty()).into();
+    reply(1 - number, vec![number.into()])
+}
+
+/// What a step is asked with: record, counter, latches, code, payload, words and cells.
+const STEP: &[Kind] = &[
+    Num(16),
+    Num(16),
+    Num(16),
+    Num(16),
+    Num(16),
+    Num(16),
+    Latches,
+    Num(8),
+    Num(16),
+    Words,
+    Words,
+];
+
+const STEP_NUMBERS: &[u32] = &[0, 13, 30, 31, 32, 33, 35];
 
 /// The table of calls.
 pub static CALLS: &[Call] = &[
@@ -490,20 +513,8 @@ pub static CALLS: &[Call] = &[
     },
     Call {
         name: "target.step",
-        kinds: &[
-            Num(16),
-            Num(16),
-            Num(16),
-            Num(16),
-            Num(16),
-            Num(16),
-            Latches,
-            Num(8),
-            Num(16),
-            Words,
-            Words,
-        ],
-        classes: &[0, 13, 30, 31, 32, 33, 35],
+        kinds: STEP,
+        classes: STEP_NUMBERS,
         own: step,
     },
     Call {
@@ -641,5 +652,23 @@ pub static CALLS: &[Call] = &[
                 field::bytes(f, 2),
             )
         },
+    },
+    Call {
+        name: "lent.step_on",
+        kinds: STEP,
+        classes: STEP_NUMBERS,
+        own: step,
+    },
+    Call {
+        name: "lent.step_method",
+        kinds: STEP,
+        classes: STEP_NUMBERS,
+        own: step,
+    },
+    Call {
+        name: "lent.first_number",
+        kinds: &[Bytes],
+        classes: &[0, 1],
+        own: first_number,
     },
 ];

@@ -198,12 +198,20 @@ fn is_words(yes: bool, rng: &mut Rng) -> Vec<Field> {
     vec![list.into(), n.into()]
 }
 
+/// What texts of short lines are made of.
+const SHORT_LINES: &[u8] = b"\n\n\r:0F\x0B\x09";
+
+/// A text of short lines, or none.
+pub fn first_number(nothing: bool, rng: &mut Rng) -> Vec<Field> {
+    let length = if nothing { 0 } else { rng.between(1, 60) };
+    let text: Vec<u8> = (0..length).map(|_| rng.pick(SHORT_LINES)).collect();
+    vec![text.into()]
+}
+
 /// A text of short lines, a place in it or past it, and the number of the line before.
 pub fn next_line(nothing: bool, rng: &mut Rng) -> Vec<Field> {
     let length = rng.below(60) + usize::from(!nothing);
-    let text: Vec<u8> = (0..length)
-        .map(|_| rng.pick(b"\n\n\r:0F\x0B\x09"))
-        .collect();
+    let text: Vec<u8> = (0..length).map(|_| rng.pick(SHORT_LINES)).collect();
     let at = match rng.below(3) {
         _ if !nothing => rng.below(text.len()) as u64,
         0 => text.len() as u64,
