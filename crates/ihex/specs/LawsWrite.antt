@@ -1,23 +1,22 @@
 -- Laws of the writer: what is still to be written, and how the parts of the text follow each other.
-use Prim.Native.Nat.{ℕ, suc, _+_, _-_, _*_, _%_, _≤_, _<_}
+use Prim.Native.Nat.{ℕ, suc, _+_, _-_, _*_, _/_, _%_, _≤_, _<_}
 use native.Mathlib.Nat.{add-zero}
 use native.Mathlib.Numerals.{add-one}
 use native.Mathlib.Omega.{arith}
 use mathlib.Core.Path.{_≡_, refl, sym, ap, _∙_}
 use mathlib.Core.List.{List, [], _∷_, _++_}
 use lib.Dec.{eqb}
-use lib.ListN.{length, getD, drop, set, length-append, drop-of-length-le}
-use lib.Seq.{sets, drop-cons, length-sets}
+use lib.ListN.{length, getD, set, length-append}
+use lib.Seq.{sets, length-sets}
 use Rattle.words.specs.Choice.{pick}
-use Rattle.words.specs.Hex.{byteText}
+use Rattle.words.specs.Lists.{build}
+use Rattle.words.specs.Hex.{digitText, byteText}
 use Rattle.words.specs.Text.{lf}
-use Rattle.words.specs.LawsLists.{sets-append}
-use Rattle.words.specs.LawsHex.{length-byte-text}
+use Rattle.words.specs.LawsLists.{sets-append, getD-build}
 use Rattle.words.specs.declared.ByteAddress.{ByteAddress}
-use Rattle.device.specs.declared.Device.{Device}
 use Rattle.ihex.specs.declared.WrittenHex.{WrittenHex}
 use Rattle.ihex.specs.Reader.{mostText}
-use Rattle.ihex.specs.Writer.{runEnd, nextStart, sumOf, digitsOf, recordText, hexAddress, upperBytes, writtenHex, writtenOut, WroteHex}
+use Rattle.ihex.specs.Writer.{sumOf, digitsOf, recordText, hexAddress, upperBytes}
 
 -- no text that is written is longer than the reader takes
 abbrev pub textLimit : ℕ
@@ -35,11 +34,6 @@ pub record Wrote (text : List ℕ) (at : ℕ) (out : List ℕ) (r : ℕ) (after 
 pub record Addressed (words i : ℕ) (r : ByteAddress) : Type 0 where
   pub is : r .0 ≡ hexAddress words i
   pub below : r .0 < 0x20000
-
--- what an entry does to a run
-pub record CutAt (image : List ℕ) (s i stop next : ℕ) : Type 0 where
-  pub ends : stop ≡ runEnd image s i
-  pub begins : next ≡ nextStart image s i
 
 -- an upper half's record, where it changes
 unfoldable pub upperText : (upper next : ℕ) → List ℕ
@@ -83,26 +77,27 @@ module _ {whole : List ℕ} {first : ℕ} {before : List ℕ} where
       let n : length (x ++ y) ≡ length x + length y = length-append x y in
       omega arith
 
-  pub left-last : (x : List ℕ) (at : ℕ) (out : List ℕ) (limit : ℕ) → Left whole first before x at out → first + length whole ≤ limit → at + length x ≤ limit
-  left-last x at out limit l h = let e : at + length x ≡ first + length whole = l .ends in omega arith
+  -- nothing is left to write
+  pub left-none : (at : ℕ) (out : List ℕ) → Left whole first before [] at out → Wrote whole first before at out
+  left-none at out l = record { bytes = l .bytes; end = sym (add-zero at) ∙ l .ends }
 
 -- nothing to write
 pub wrote-none : (at : ℕ) (out : List ℕ) → Wrote [] at out at out
 wrote-none at out = record { bytes = refl; end = sym (add-zero at) }
 
--- ---- sums and digits
+-- ---- the parts of a record
 
-pub sum-on : (l : List ℕ) (i sum total : ℕ) → i < length l → sum + sumOf (drop i l) ≡ total → sum + getD l i 0 + sumOf (drop (i + 1) l) ≡ total
-unfolding sumOf
-sum-on l i sum total h e =
-    let z : sum + (getD l i 0 + sumOf (drop (suc i) l)) ≡ total = rw (drop-cons l i 0 h) at e in
-    rw add-one (omega arith)
+-- a colon, the count, the address and the type
+unfoldable pub headText : (count high low kind : ℕ) → List ℕ
+headText count high low kind = 0x3a ∷ digitsOf (count ∷ high ∷ low ∷ kind ∷ [])
 
-pub sum-end : (l : List ℕ) (i sum total : ℕ) → length l ≤ i → sum + sumOf (drop i l) ≡ total → sum ≡ total
-unfolding sumOf
-sum-end l i sum total h e =
-    let z : sum + 0 ≡ total = rw (drop-of-length-le l h) at e in
-    omega arith
+-- the byte that makes a record sum to 0 mod 256, and LF
+unfoldable pub sumText : ℕ → List ℕ
+sumText sum = byteText ((256 - sum % 256) % 256) ++ lf ∷ []
+
+record-parts : (count high low kind : ℕ) (body : List ℕ) → recordText (count ∷ high ∷ low ∷ kind ∷ body) ≡ headText count high low kind ++ (digitsOf body ++ sumText (count + (high + (low + (kind + sumOf body)))))
+unfolding recordText headText sumText digitsOf sumOf byteText
+record-parts count high low kind body = refl
 
 pub length-digits : (l : List ℕ) → length (digitsOf l) ≡ 2 * length l
 unfolding digitsOf byteText
@@ -118,47 +113,40 @@ length-record l =
     let t : length tail ≡ 3 = unfold byteText in refl in
     omega arith
 
--- one turn of the loop that puts digits
-pub digits-on : (l out after whole : List ℕ) (at i : ℕ) → i < length l → after ≡ sets out (at + 2 * i) (byteText (getD l i 0)) → sets out (at + 2 * i) (digitsOf (drop i l)) ≡ whole → sets after (at + 2 * (i + 1)) (digitsOf (drop (i + 1) l)) ≡ whole
-unfolding digitsOf
-digits-on l out after whole at i h e left =
-    let place : at + 2 * (i + 1) ≡ at + 2 * i + length (byteText (getD l i 0)) = rw (length-byte-text (getD l i 0)) (omega arith) in
-    rw (e, place, add-one)
-    (sets-append out (at + 2 * i) (byteText (getD l i 0)) (digitsOf (drop (suc i) l))
-    ∙ (rw (drop-cons l i 0 h) at left))
+-- ---- a record's parts, stored one after the other
 
-pub digits-end : (l out whole : List ℕ) (at i : ℕ) → length l ≤ i → sets out (at + 2 * i) (digitsOf (drop i l)) ≡ whole → out ≡ whole
-unfolding digitsOf
-digits-end l out whole at i h left = rw (drop-of-length-le l h) at left
+table-capital : (capitals : List ℕ) (n : ℕ) → capitals ≡ build 16 digitText → n < 16 → getD capitals n 0 ≡ digitText n
+table-capital capitals n e h = rw e (getD-build 16 digitText n h)
 
--- colon, digits, sum and LF stored one after the other
-pub record-put : (l out m₁ m₂ m₃ m₄ : List ℕ) (at end sum : ℕ) → sum ≡ (256 - sumOf l % 256) % 256 → end ≡ at + 1 + 2 * length l → m₁ ≡ set out at 0x3a → m₂ ≡ sets m₁ (at + 1) (digitsOf l) → m₃ ≡ sets m₂ end (byteText sum) → m₄ ≡ set m₃ (end + 2) lf → Wrote (recordText l) at out (end + 3) m₄
-unfolding recordText
-record-put l out m₁ m₂ m₃ m₄ at end sum s p e₁ e₂ e₃ e₄ =
-    record {
-      bytes = e₄ ∙ (ap (λ o. set o (end + 2) lf) (e₃ ∙ ap (λ o. sets o end (byteText sum)) (e₂ ∙ ap (λ o. sets o (at + 1) (digitsOf l)) e₁)) ∙ all);
-      end = let n : length (recordText l) ≡ 2 * length l + 4 = length-record l in omega arith;
-    }
-  where
-    text : List ℕ
-    text = byteText sum ++ lf ∷ []
+-- the table as it is laid out
+pub capitals-told : 0x30 ∷ 0x31 ∷ 0x32 ∷ 0x33 ∷ 0x34 ∷ 0x35 ∷ 0x36 ∷ 0x37 ∷ 0x38 ∷ 0x39 ∷ 0x41 ∷ 0x42 ∷ 0x43 ∷ 0x44 ∷ 0x45 ∷ 0x46 ∷ [] ≡ build 16 digitText
+unfolding build digitText pick
+capitals-told = refl
 
-    last : (o : List ℕ) → set (sets o end (byteText sum)) (end + 2) lf ≡ sets o end text
-    last o = rw (length-byte-text sum) at (sets-append o end (byteText sum) (lf ∷ []))
+pub pair-put : (capitals out : List ℕ) (at b : ℕ) → capitals ≡ build 16 digitText → b < 256 → set (set out at (getD capitals (b / 16) 0)) (at + 1) (getD capitals (b % 16) 0) ≡ sets out at (byteText b)
+unfolding byteText
+pair-put capitals out at b e h = rw (table-capital capitals (b / 16) e (omega arith), table-capital capitals (b % 16) e (omega arith), add-one at)
 
-    here : end ≡ at + 1 + length (digitsOf l)
-    here = p ∙ ap (λ n. at + 1 + n) (sym (length-digits l))
+pub head-put : (count high low kind at : ℕ) (out m₁ m₂ m₃ m₄ : List ℕ) → m₁ ≡ sets (set out at 0x3a) (at + 1) (byteText count) → m₂ ≡ sets m₁ (at + 3) (byteText high) → m₃ ≡ sets m₂ (at + 5) (byteText low) → m₄ ≡ sets m₃ (at + 7) (byteText kind) → Wrote (headText count high low kind) at out (at + 9) m₄
+unfolding headText digitsOf byteText
+head-put count high low kind at out m₁ m₂ m₃ m₄ e₁ e₂ e₃ e₄ =
+    let p₁ : at + 1 ≡ suc at = omega arith in
+    let p₃ : at + 3 ≡ suc (suc (suc at)) = omega arith in
+    let p₅ : at + 5 ≡ suc (suc (suc (suc (suc at)))) = omega arith in
+    let p₇ : at + 7 ≡ suc (suc (suc (suc (suc (suc (suc at)))))) = omega arith in
+    record { bytes = rw (e₄, e₃, e₂, e₁, p₁, p₃, p₅, p₇); end = refl }
 
-    all : set (sets (sets (set out at 0x3a) (at + 1) (digitsOf l)) end (byteText sum)) (end + 2) lf ≡ sets out at (0x3a ∷ (digitsOf l ++ (byteText ((256 - sumOf l % 256) % 256) ++ lf ∷ [])))
-    all =
-        last (sets (set out at 0x3a) (at + 1) (digitsOf l))
-        ∙ (ap (λ n. sets (sets (set out at 0x3a) (at + 1) (digitsOf l)) n text) here
-        ∙ (sets-append (set out at 0x3a) (at + 1) (digitsOf l) text
-        ∙ (rw (add-one, s))))
+pub sum-put : (sum at : ℕ) (out m : List ℕ) → m ≡ sets out at (byteText ((256 - sum % 256) % 256)) → Wrote (sumText sum) at out (at + 3) (set m (at + 2) lf)
+unfolding sumText byteText
+sum-put sum at out m e = let two : at + 2 ≡ suc (suc at) = omega arith in record { bytes = rw (e, two); end = refl }
 
--- the code's answer for the sum
-pub sum-told : (l : List ℕ) (sum : ℕ) → sum ≡ sumOf l → (256 - sum % 256) % 256 ≡ (256 - sumOf l % 256) % 256
-sum-told l sum e = rw e
+pub record-put : (count high low kind : ℕ) (body : List ℕ) (at next sum : ℕ) (out m₁ m₂ : List ℕ) (r : ℕ) (after : List ℕ) → Wrote (headText count high low kind) at out next m₁ → m₂ ≡ sets m₁ next (digitsOf body)
+    → (place : ℕ) → place ≡ next + 2 * length body → sum ≡ count + (high + (low + (kind + sumOf body))) → Wrote (sumText sum) place m₂ r after → Wrote (recordText (count ∷ high ∷ low ∷ kind ∷ body)) at out r after
+record-put count high low kind body at next sum out m₁ m₂ r after w e place p q v =
+    let all = left-as at out (record-parts count high low kind body) in
+    let put : Wrote (digitsOf body) next m₁ place m₂ = record { bytes = e; end = p ∙ ap (λ n. next + n) (sym (length-digits body)) } in
+    let last : Wrote (sumText (count + (high + (low + (kind + sumOf body))))) place m₂ r after = rw q at v in
+    left-done (sumText _) place m₂ r after (left-then (digitsOf body) _ next m₁ place m₂ (left-then (headText count high low kind) _ at out next m₁ all w) put) last
 
 -- two buffers into which texts were put, with one outcome, are of one length
 pub same-room : (l m x y : List ℕ) (a b : ℕ) → sets l a x ≡ sets m b y → length l ≡ length m

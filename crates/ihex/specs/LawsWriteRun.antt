@@ -1,15 +1,15 @@
 -- Laws of a run: its addresses, its bytes, and what an entry does to it.
 use Prim.Native.Nat.{ℕ, zero, suc, _+_, _-_, _*_, _/_, _%_, _≤_, _<_}
-use native.Mathlib.Numerals.{add-one}
 use native.Mathlib.Omega.{arith}
 use native.Mathlib.Decide.{decLt, ℕ-discrete}
-use mathlib.Core.Path.{_≡_, refl, sym, ap, _∙_}
+use mathlib.Core.Path.{_≡_, refl, ap, _∙_}
 use mathlib.Core.List.{List, [], _∷_, _++_}
-use lib.ListN.{length, getD, take, set, length-append}
-use lib.Seq.{sets, sets-eq, take-at}
+use lib.ListN.{length, getD}
+use lib.Seq.{sets, length-sets}
 use borrow.Author.Tests.{lt-ltb, le-ltb, eq-eqb, ne-eqb}
 use Rattle.words.specs.Choice.{pick}
 use Rattle.words.specs.Word.{notGiven}
+use Rattle.words.specs.Hex.{byteText}
 use Rattle.words.specs.Address.{configBase, addressOf, placeOf, doubled}
 use Rattle.words.specs.LawsAddress.{place-of, address-program, address-config}
 use Rattle.words.specs.declared.ByteAddress.{ByteAddress}
@@ -17,8 +17,8 @@ use Rattle.words.specs.declared.WordAddress.{WordAddress}
 use Rattle.words.specs.declared.Place.{Place}
 use Rattle.words.specs.declared.Place.the-variants.{At, Nowhere}
 use Rattle.device.specs.Record.{mostWords}
-use Rattle.ihex.specs.Writer.{recordText, hexAddress, upperOf, wordBytes, dataBytes, upperBytes, runText, upperAfter, runEnd, nextStart}
-use Rattle.ihex.specs.LawsWrite.{CutAt, Wrote, Left, Addressed, upperText, left-as, left-then, left-done, left-part, wrote-none}
+use Rattle.ihex.specs.Writer.{sumOf, digitsOf, recordText, hexAddress, upperOf, wordBytes, dataBytes, upperBytes, runText, upperAfter, runEnd, nextStart}
+use Rattle.ihex.specs.LawsWrite.{Wrote, Addressed, upperText, headText, sumText, left-all, left-then, left-done, wrote-none, wrote-room, length-record, record-put}
 
 -- ---- addresses
 
@@ -90,43 +90,64 @@ pub length-data : (words : ℕ) (image : List ℕ) (s e : ℕ) → length (dataB
 unfolding dataBytes
 length-data words image s e = let w : length (wordBytes (e - s) s image) ≡ 2 * (e - s) = length-words (e - s) s image in omega arith
 
--- one turn of the loop that fills in words
-pub words-on : (image l m n whole : List ℕ) (at i stop : ℕ) → i < stop → m ≡ set l at (getD image i 0 % 256) → n ≡ set m (at + 1) (getD image i 0 / 256) → sets l at (wordBytes (stop - i) i image) ≡ whole → sets n (at + 2) (wordBytes (stop - (i + 1)) (i + 1) image) ≡ whole
-unfolding wordBytes
-words-on image l m n whole at i stop h p q left =
-    let more : stop - i ≡ suc (stop - (i + 1)) = omega arith in
-    let two : at + 2 ≡ suc (suc at) = omega arith in
-    rw (q, p, two, add-one at) (rw more at left)
+-- the same with the entry's address as it was told
+unfoldable pub dataAt : (address : ℕ) → List ℕ → (s e : ℕ) → List ℕ
+dataAt address image s e = 2 * (e - s) ∷ address % 65536 / 256 ∷ address % 256 ∷ 0 ∷ wordBytes (e - s) s image
 
-pub words-end : (image l whole : List ℕ) (at i stop : ℕ) → stop ≤ i → sets l at (wordBytes (stop - i) i image) ≡ whole → l ≡ whole
-unfolding wordBytes
-words-end image l whole at i stop h left = let none : stop - i ≡ 0 = omega arith in rw none at left
+-- ---- the digits of a run's words
 
--- four bytes and the words stored one after the other
-pub data-put : (words : ℕ) (image : List ℕ) (s e : ℕ) (a : ByteAddress) (l m₁ m₂ m₃ m₄ m₅ : List ℕ) → Addressed words s a → m₁ ≡ set l 0 (2 * (e - s)) → m₂ ≡ set m₁ 1 (a .0 % 65536 / 256) → m₃ ≡ set m₂ 2 (a .0 % 256) → m₄ ≡ set m₃ 3 0 → m₅ ≡ sets m₄ 4 (wordBytes (e - s) s image) → m₅ ≡ sets l 0 (dataBytes words image s e)
-unfolding dataBytes
-data-put words image s e a l m₁ m₂ m₃ m₄ m₅ d e₁ e₂ e₃ e₄ e₅ = rw (e₅, e₄, e₃, e₂, e₁, d .is)
+-- they were put, and r is the sum of their bytes
+pub record WordsPut (image : List ℕ) (start stop at : ℕ) (out : List ℕ) (r : ℕ) (after : List ℕ) : Type 0 where
+  pub bytes : after ≡ sets out at (digitsOf (wordBytes (stop - start) start image))
+  pub sum : r ≡ sumOf (wordBytes (stop - start) start image)
+  pub few : r ≤ 510 * (stop - start)
 
--- what is cut from the buffer is the record's bytes
-pub data-cut : (words : ℕ) (image : List ℕ) (s e : ℕ) (l m : List ℕ) → 4 + 2 * (e - s) ≤ length l → m ≡ sets l 0 (dataBytes words image s e) → take (4 + 2 * (e - s)) m ≡ dataBytes words image s e
-data-cut words image s e l m h q =
-    let n : length (dataBytes words image s e) ≡ 4 + 2 * (e - s) = length-data words image s e in
-    let room : 0 + length (dataBytes words image s e) ≤ length l = omega arith in
-    rw (q, sets-eq (dataBytes words image s e) l 0 room) (take-at (dataBytes words image s e) _ (4 + 2 * (e - s)) n)
+-- those before entry i were put, and `to` is the place past them
+pub record Putting (image : List ℕ) (start stop at : ℕ) (before out : List ℕ) (sum to i : ℕ) : Type 0 where
+  pub low : start ≤ i
+  pub high : i ≤ stop
+  pub place : to ≡ at + 4 * (i - start)
+  pub few : sum ≤ 510 * (i - start)
+  pub room : length out ≡ length before
+  pub bytes : sets out to (digitsOf (wordBytes (stop - i) i image)) ≡ sets before at (digitsOf (wordBytes (stop - start) start image))
+  pub sums : sum + sumOf (wordBytes (stop - i) i image) ≡ sumOf (wordBytes (stop - start) start image)
 
--- the same, of a buffer of twenty bytes
-module _ (words : ℕ) (image : List ℕ) (s e : ℕ) (l m : List ℕ) (few : e ≤ s + 8) (twenty : length l ≡ 20) (q : m ≡ sets l 0 (dataBytes words image s e)) where
-  cut : take (4 + 2 * (e - s)) m ≡ dataBytes words image s e
-  cut = data-cut words image s e l m (omega arith) q
+module _ (image : List ℕ) (start stop at : ℕ) (before : List ℕ) where
+  pub putting-first : start ≤ stop → Putting image start stop at before before 0 at start
+  putting-first h = record { low = omega arith; high = h; place = omega arith; few = omega arith; room = refl; bytes = refl; sums = omega arith }
 
-  pub cut-length : 4 + 2 * (e - s) ≡ length (take (4 + 2 * (e - s)) m)
-  cut-length = sym (ap length cut ∙ length-data words image s e)
+  module _ (out : List ℕ) (sum to i : ℕ) (p : Putting image start stop at before out sum to i) where
+    pub putting-on : i < stop → getD image i 0 < 65536 → (m n : List ℕ) → m ≡ sets out to (byteText (getD image i 0 % 256)) → n ≡ sets m (to + 2) (byteText (getD image i 0 / 256)) → Putting image start stop at before n (sum + (getD image i 0 % 256 + getD image i 0 / 256)) (to + 4) (i + 1)
+    putting-on h fits m n e q =
+        record { low = omega arith; high = omega arith; place = omega arith; few = omega arith; room = ap length (q ∙ ap (λ l. sets l (to + 2) (byteText (getD image i 0 / 256))) e) ∙ (length-sets _ (to + 2) (byteText (getD image i 0 / 256)) ∙ (length-sets out to (byteText (getD image i 0 % 256)) ∙ p .room)); bytes = stored; sums = added }
+      where
+        more : stop - i ≡ suc (stop - (i + 1))
+        more = omega arith
 
-  pub cut-room : (at limit : ℕ) → at + length (recordText (dataBytes words image s e)) ≤ limit → at + length (recordText (take (4 + 2 * (e - s)) m)) ≤ limit
-  cut-room at limit h = rw cut h
+        stored : sets n (to + 4) (digitsOf (wordBytes (stop - (i + 1)) (i + 1) image)) ≡ sets before at (digitsOf (wordBytes (stop - start) start image))
+        stored =
+            unfold wordBytes digitsOf byteText in
+            let two : to + 2 ≡ suc (suc to) = omega arith in
+            let four : to + 4 ≡ suc (suc (suc (suc to))) = omega arith in
+            rw (q, e, two, four) (rw more at (p .bytes))
 
-  pub cut-put : (at : ℕ) (out : List ℕ) (r : ℕ) (after : List ℕ) → Wrote (recordText (take (4 + 2 * (e - s)) m)) at out r after → Wrote (recordText (dataBytes words image s e)) at out r after
-  cut-put at out r after w = rw cut at w
+        added : sum + (getD image i 0 % 256 + getD image i 0 / 256) + sumOf (wordBytes (stop - (i + 1)) (i + 1) image) ≡ sumOf (wordBytes (stop - start) start image)
+        added =
+            unfold wordBytes sumOf in
+            let z : sum + (getD image i 0 % 256 + (getD image i 0 / 256 + sumOf (wordBytes (stop - (i + 1)) (i + 1) image))) ≡ sumOf (wordBytes (stop - start) start image) = rw more at (p .sums) in
+            omega arith
+
+    pub putting-done : stop ≤ i → WordsPut image start stop at before sum out
+    putting-done h = record { bytes = unfold wordBytes digitsOf in rw none at (p .bytes); sum = added; few = omega arith }
+      where
+        none : stop - i ≡ 0
+        none = omega arith
+
+        added : sum ≡ sumOf (wordBytes (stop - start) start image)
+        added =
+            unfold wordBytes sumOf in
+            let z : sum + 0 ≡ sumOf (wordBytes (stop - start) start image) = rw none at (p .sums) in
+            omega arith
 
 -- ---- the text of a run
 
@@ -147,14 +168,15 @@ module _ (words : ℕ) (image : List ℕ) (upper s e : ℕ) where
   unfolding upperAfter pick
   after-none h = rw (le-ltb s e h)
 
-  -- the code's upper half is the definition's
-  pub after-read : (a : ByteAddress) (r : ℕ) → Addressed words s a → r ≡ a .0 / 65536 → s < e → r ≡ upperAfter words upper s e
-  unfolding upperOf
-  after-read a r d q h = q ∙ (ap (λ n. n / 65536) (d .is) ∙ sym (after-some h))
-
+-- the code's upper half is the definition's
 pub upper-read : (words s : ℕ) (a : ByteAddress) (r : ℕ) → Addressed words s a → r ≡ a .0 / 65536 → r ≡ upperOf words s
 unfolding upperOf
 upper-read words s a r d q = q ∙ ap (λ n. n / 65536) (d .is)
+
+-- a run's text with its address as it was told
+pub run-told : (words : ℕ) (image : List ℕ) (upper s e : ℕ) (a : ByteAddress) → Addressed words s a → s < e → runText words image upper s e ≡ upperText upper (a .0 / 65536) ++ recordText (dataAt (a .0) image s e)
+unfolding upperOf dataBytes dataAt
+run-told words image upper s e a d h = run-some words image upper s e h ∙ rw (d .is)
 
 module _ (upper next : ℕ) where
   pub upper-same : next ≡ upper → upperText upper next ≡ []
@@ -165,71 +187,23 @@ module _ (upper next : ℕ) where
   unfolding upperText pick
   upper-new n = rw (ne-eqb next upper n)
 
+  pub length-new : (next ≡ upper → ⊥) → length (upperText upper next) ≡ 16
+  unfolding upperBytes
+  length-new n = rw (upper-new n) (length-record (upperBytes next))
+
 -- ---- what an entry does
 
-pub data Seen (image : List ℕ) (s i : ℕ) : Type 0 where
-  gap : getD image i 0 ≡ notGiven → runEnd image s i ≡ i → nextStart image s i ≡ i + 1 → Seen image s i
-  full : (getD image i 0 ≡ notGiven → ⊥) → (i + 1) % 8 ≡ 0 → runEnd image s i ≡ i + 1 → nextStart image s i ≡ i + 1 → Seen image s i
-  goes : (getD image i 0 ≡ notGiven → ⊥) → ((i + 1) % 8 ≡ 0 → ⊥) → runEnd image s i ≡ s → nextStart image s i ≡ s → Seen image s i
+-- entry i ends the run that began at s at e (at s: not yet), and the next one begins at t
+pub record Cut (image : List ℕ) (s i e t : ℕ) : Type 0 where
+  pub ends : runEnd image s i ≡ e
+  pub begins : nextStart image s i ≡ t
 
-pub seen : (image : List ℕ) (s i : ℕ) → Seen image s i
-unfolding runEnd nextStart pick
-seen image s i = by (ℕ-discrete (getD image i 0) notGiven) (ℕ-discrete ((i + 1) % 8) 0)
-  where
-    by : Dec (getD image i 0 ≡ notGiven) → Dec ((i + 1) % 8 ≡ 0) → Seen image s i
-    by (yes p) q = gap p (rw (eq-eqb (getD image i 0) notGiven p)) (rw (eq-eqb (getD image i 0) notGiven p))
-    by (no p) (yes q) = full p q (rw (ne-eqb (getD image i 0) notGiven p, eq-eqb ((i + 1) % 8) 0 q)) (rw (ne-eqb (getD image i 0) notGiven p, eq-eqb ((i + 1) % 8) 0 q))
-    by (no p) (no q) = goes p q (rw (ne-eqb (getD image i 0) notGiven p, ne-eqb ((i + 1) % 8) 0 q)) (rw (ne-eqb (getD image i 0) notGiven p, ne-eqb ((i + 1) % 8) 0 q))
-
--- ---- the code's records
-
-module _ (upper next at : ℕ) where
-  pub upper-kept : (out : List ℕ) → next ≡ upper → Wrote (upperText upper next) at out at out
-  upper-kept out e = rw (upper-same upper next e) (wrote-none at out)
-
-  pub upper-room : (limit : ℕ) → (next ≡ upper → ⊥) → at + length (upperText upper next) ≤ limit → at + length (recordText (2 ∷ 0 ∷ 0 ∷ 4 ∷ next / 256 ∷ next % 256 ∷ [])) ≤ limit
-  unfolding upperBytes
-  upper-room limit n h = rw (upper-new upper next n) at h
-
-  pub upper-put : (out : List ℕ) (r : ℕ) (after : List ℕ) → (next ≡ upper → ⊥) → Wrote (recordText (2 ∷ 0 ∷ 0 ∷ 4 ∷ next / 256 ∷ next % 256 ∷ [])) at out r after → Wrote (upperText upper next) at out r after
-  unfolding upperBytes
-  upper-put out r after n w = rw (upper-new upper next n) w
-
-module _ (words : ℕ) (image : List ℕ) (upper s e at : ℕ) (h : s < e) (limit : ℕ) (room : at + length (runText words image upper s e) ≤ limit) where
-  whole : Left (runText words image upper s e) at [] (upperText upper (upperOf words s) ++ recordText (dataBytes words image s e)) at []
-  whole = left-as at [] (run-some words image upper s e h)
-
-  -- room for the upper half, and then for the data
-  pub run-room-upper : (half : ℕ) → half ≡ upperOf words s → at + length (upperText upper half) ≤ limit
-  run-room-upper half q =
-      let z : at + length (upperText upper (upperOf words s)) ≤ limit = left-part (upperText upper (upperOf words s)) (recordText (dataBytes words image s e)) at [] limit whole room in
-      rw q z
-
-  pub run-room-data : (half : ℕ) (out : List ℕ) (r : ℕ) (after : List ℕ) → half ≡ upperOf words s → Wrote (upperText upper half) at out r after → r + length (recordText (dataBytes words image s e)) ≤ limit
-  run-room-data half out r after q w =
-      let n : length (upperText upper (upperOf words s) ++ recordText (dataBytes words image s e)) ≡ length (upperText upper (upperOf words s)) + length (recordText (dataBytes words image s e)) = length-append (upperText upper (upperOf words s)) (recordText (dataBytes words image s e)) in
-      let z : at + length (upperText upper (upperOf words s) ++ recordText (dataBytes words image s e)) ≤ limit = rw (run-some words image upper s e h) at room in
-      let p : r ≡ at + length (upperText upper half) = w .end in
-      let p' : r ≡ at + length (upperText upper (upperOf words s)) = rw q at p in
-      omega arith
-
-  -- both were put
-  pub run-put : (half : ℕ) (out : List ℕ) (m : ℕ) (mid : List ℕ) (r : ℕ) (after : List ℕ) → half ≡ upperOf words s → Wrote (upperText upper half) at out m mid → Wrote (recordText (dataBytes words image s e)) m mid r after → Wrote (runText words image upper s e) at out r after
-  run-put half out m mid r after q v w =
-      let all : Left (runText words image upper s e) at out (upperText upper half ++ recordText (dataBytes words image s e)) at out = rw q (left-as at out (run-some words image upper s e h)) in
-      left-done (recordText (dataBytes words image s e)) m mid r after
-      (left-then (upperText upper half) (recordText (dataBytes words image s e)) at out m mid all v) w
-
-pub run-empty : (words : ℕ) (image : List ℕ) (upper s e at : ℕ) (out : List ℕ) → e ≤ s → Wrote (runText words image upper s e) at out at out
-run-empty words image upper s e at out h = rw (run-none words image upper s e h) (wrote-none at out)
-
--- the code's tests of an entry
 module _ (image : List ℕ) (s i : ℕ) where
-  pub cut-gap : getD image i 0 ≡ notGiven → CutAt image s i i (i + 1)
+  pub cut-gap : getD image i 0 ≡ notGiven → Cut image s i i (i + 1)
   unfolding runEnd nextStart pick
   cut-gap e = record { ends = rw (eq-eqb (getD image i 0) notGiven e); begins = rw (eq-eqb (getD image i 0) notGiven e) }
 
-  pub cut-full : (getD image i 0 ≡ notGiven → ⊥) → (i + 1) % 8 ≡ 0 → CutAt image s i (i + 1) (i + 1)
+  pub cut-full : (getD image i 0 ≡ notGiven → ⊥) → (i + 1) % 8 ≡ 0 → Cut image s i (i + 1) (i + 1)
   unfolding runEnd nextStart pick
   cut-full n e =
       record {
@@ -237,10 +211,64 @@ module _ (image : List ℕ) (s i : ℕ) where
         begins = rw (ne-eqb (getD image i 0) notGiven n, eq-eqb ((i + 1) % 8) 0 e);
       }
 
-  pub cut-none : (getD image i 0 ≡ notGiven → ⊥) → ((i + 1) % 8 ≡ 0 → ⊥) → CutAt image s i s s
+  pub cut-none : (getD image i 0 ≡ notGiven → ⊥) → ((i + 1) % 8 ≡ 0 → ⊥) → Cut image s i s s
   unfolding runEnd nextStart pick
   cut-none n e =
       record {
         ends = rw (ne-eqb (getD image i 0) notGiven n, ne-eqb ((i + 1) % 8) 0 e);
         begins = rw (ne-eqb (getD image i 0) notGiven n, ne-eqb ((i + 1) % 8) 0 e);
       }
+
+pub data Seen (image : List ℕ) (s i : ℕ) : Type 0 where
+  gap : getD image i 0 ≡ notGiven → runEnd image s i ≡ i → nextStart image s i ≡ i + 1 → Seen image s i
+  full : (getD image i 0 ≡ notGiven → ⊥) → (i + 1) % 8 ≡ 0 → runEnd image s i ≡ i + 1 → nextStart image s i ≡ i + 1 → Seen image s i
+  goes : (getD image i 0 ≡ notGiven → ⊥) → ((i + 1) % 8 ≡ 0 → ⊥) → runEnd image s i ≡ s → nextStart image s i ≡ s → Seen image s i
+
+pub seen : (image : List ℕ) (s i : ℕ) → Seen image s i
+seen image s i = by (ℕ-discrete (getD image i 0) notGiven) (ℕ-discrete ((i + 1) % 8) 0)
+  where
+    by : Dec (getD image i 0 ≡ notGiven) → Dec ((i + 1) % 8 ≡ 0) → Seen image s i
+    by (yes p) q = let c = cut-gap image s i p in gap p (c .ends) (c .begins)
+    by (no p) (yes q) = let c = cut-full image s i p q in full p q (c .ends) (c .begins)
+    by (no p) (no q) = let c = cut-none image s i p q in goes p q (c .ends) (c .begins)
+
+-- ---- the code's records
+
+pub upper-kept : (upper next at : ℕ) (out : List ℕ) → next ≡ upper → Wrote (upperText upper next) at out at out
+upper-kept upper next at out e = rw (upper-same upper next e) (wrote-none at out)
+
+pub upper-put : (upper next at : ℕ) → (next ≡ upper → ⊥) → (out : List ℕ) (body : ℕ) (m₁ m₂ m₃ : List ℕ) (r : ℕ) (after : List ℕ) → Wrote (headText 2 0 0 4) at out body m₁ → m₂ ≡ sets m₁ body (byteText (next / 256)) → m₃ ≡ sets m₂ (body + 2) (byteText (next % 256))
+    → Wrote (sumText (6 + next / 256 + next % 256)) (body + 4) m₃ r after → Wrote (upperText upper next) at out r after
+unfolding upperBytes
+upper-put upper next at n out body m₁ m₂ m₃ r after w e₂ e₃ v =
+    rw (upper-new upper next n)
+    (record-put 2 0 0 4 (next / 256 ∷ next % 256 ∷ []) at body (6 + next / 256 + next % 256) out m₁ m₃ r after w stored (body + 4) refl summed v)
+  where
+    stored : m₃ ≡ sets m₁ body (digitsOf (next / 256 ∷ next % 256 ∷ []))
+    stored = unfold digitsOf byteText in let two : body + 2 ≡ suc (suc body) = omega arith in rw (e₃, e₂, two)
+
+    summed : 6 + next / 256 + next % 256 ≡ 2 + (0 + (0 + (4 + sumOf (next / 256 ∷ next % 256 ∷ []))))
+    summed = unfold sumOf in omega arith
+
+pub data-put : (address : ℕ) (image : List ℕ) (s e at : ℕ) (out : List ℕ) (body : ℕ) (m₁ : List ℕ) (sum : ℕ) (m₂ : List ℕ) (r : ℕ) (after : List ℕ) → Wrote (headText (2 * (e - s)) (address % 65536 / 256) (address % 256) 0) at out body m₁ → WordsPut image s e body m₁ sum m₂
+    → Wrote (sumText (2 * (e - s) + address % 65536 / 256 + address % 256 + sum)) (body + 4 * (e - s)) m₂ r after → Wrote (recordText (dataAt address image s e)) at out r after
+unfolding dataAt
+data-put address image s e at out body m₁ sum m₂ r after w p v =
+    let n : length (wordBytes (e - s) s image) ≡ 2 * (e - s) = length-words (e - s) s image in
+    let q : sum ≡ sumOf (wordBytes (e - s) s image) = p .sum in
+    record-put (2 * (e - s)) (address % 65536 / 256) (address % 256) 0 (wordBytes (e - s) s image) at body (2 * (e - s) + address % 65536 / 256 + address % 256 + sum) out m₁ m₂ r after w (p .bytes) (body + 4 * (e - s)) (omega arith) (omega arith) v
+
+-- an upper half and what comes after it
+module _ (upper half full at : ℕ) (out : List ℕ) (e : half ≡ full) where
+  pub half-room : (more : ℕ) → at + length (upperText upper full) + more ≤ length out → at + length (upperText upper half) ≤ length out
+  half-room more h = rw e (omega arith)
+
+  module _ (next : ℕ) (mid : List ℕ) (w : Wrote (upperText upper half) at out next mid) where
+    pub rest-room : (more : ℕ) → at + length (upperText upper full) + more ≤ length out → next + more ≤ length mid
+    rest-room more h =
+        let p : next ≡ at + length (upperText upper full) = rw e at (w .end) in
+        let same : length mid ≡ length out = wrote-room w in
+        omega arith
+
+    pub run-put : (rest : List ℕ) (r : ℕ) (after : List ℕ) → Wrote rest next mid r after → Wrote (upperText upper full ++ rest) at out r after
+    run-put rest r after v = left-done rest next mid r after (left-then (upperText upper full) rest at out next mid (left-all (upperText upper full ++ rest) at out) (rw e at w)) v

@@ -1,24 +1,19 @@
--- Laws of the whole text: its length, the writer's loop over the entries, and the call's answers.
+-- Laws of the whole text's length, and of its count.
 use Prim.Native.Nat.{ℕ, zero, suc, _+_, _-_, _*_, _%_, _≤_, _<_}
 use native.Mathlib.Omega.{arith}
 use native.Mathlib.Decide.{decLt, ℕ-discrete}
-use mathlib.Core.Path.{_≡_, refl, sym, ap, _∙_}
-use mathlib.Core.Bool.{Bool, true, false}
-use mathlib.Core.List.{List, [], _∷_, _++_}
+use mathlib.Core.Path.{_≡_, refl, sym, _∙_}
+use mathlib.Core.List.{List, [], _++_}
 use lib.Dec.{ltb, eqb}
-use lib.ListN.{length, length-append}
-use borrow.Author.Tests.{lt-ltb, le-ltb, le-leb, lt-leb, eq-eqb, ne-eqb}
+use lib.ListN.{length, getD, length-append}
+use borrow.Author.Tests.{lt-ltb, le-ltb, eq-eqb, ne-eqb}
 use Rattle.words.specs.Choice.{pick}
-use Rattle.words.specs.LawsChoice.{pick-true, pick-false}
-use Rattle.device.specs.declared.Device.{Device}
-use Rattle.device.specs.Record.{mostWords, deviceOk, recordNumber}
-use Rattle.device.specs.Memory.{imageOk}
-use Rattle.device.specs.LawsRecord.{rules-of-judged, ok-of-judged, bad-of-judged}
-use Rattle.device.specs.LawsMemory.{image-long}
-use Rattle.ihex.specs.declared.WrittenHex.{WrittenHex}
-use Rattle.ihex.specs.Writer.{recordText, upperOf, dataBytes, upperBytes, endBytes, runText, upperAfter, runEnd, nextStart, textFrom, hexText, writtenHex, writtenOut, WroteHex}
-use Rattle.ihex.specs.LawsWrite.{Wrote, Left, upperText, textLimit, refusedWith, left-all, left-then, left-done, left-part, left-last, length-record}
-use Rattle.ihex.specs.LawsWriteRun.{Seen, seen, gap, full, goes, run-some, run-none, after-some, after-none, upper-same, upper-new, upper-most, upper-rises, length-data}
+use Rattle.words.specs.Word.{notGiven}
+use Rattle.device.specs.Record.{mostWords}
+use Rattle.ihex.specs.Writer.{recordText, upperOf, dataBytes, endBytes, runText, upperAfter, runEnd, nextStart, textFrom, hexText}
+use Rattle.ihex.specs.LawsWrite.{upperText, textLimit, length-record}
+use Rattle.ihex.specs.LawsWriteRun.{Seen, seen, gap, full, goes, run-some, run-none, after-some, after-none, upper-same, length-new, upper-most, upper-rises, length-data}
+use Rattle.ihex.specs.LawsWriteStop.{RunTo, text-end, text-skip}
 
 -- ---- the text's length
 
@@ -61,19 +56,31 @@ length-upper upper next p q = by (ℕ-discrete next upper)
     by : Dec (next ≡ upper) → length (upperText upper next) + 16 * (1 - next) ≤ 16 * (1 - upper)
     by (yes e) = rw (upper-same upper next e) (omega arith)
     by (no n) =
-        let l : length (recordText (upperBytes next)) ≡ 2 * length (upperBytes next) + 4 = length-record (upperBytes next) in
-        let six : length (upperBytes next) ≡ 6 = unfold upperBytes in refl in
+        let l : length (upperText upper next) ≡ 16 = length-new upper next n in
         let less : upper < next = lib.Arith.lt-of-le-ne p (λ e. n (sym e)) in
-        rw (upper-new upper next n) (omega arith)
+        omega arith
+
+pub length-run : (words : ℕ) (image : List ℕ) (upper s e : ℕ) → s < e → length (runText words image upper s e) ≡ length (upperText upper (upperOf words s)) + (12 + 4 * (e - s))
+length-run words image upper s e h =
+    let d : length (recordText (dataBytes words image s e)) ≡ 2 * length (dataBytes words image s e) + 4 = length-record (dataBytes words image s e) in
+    let n : length (dataBytes words image s e) ≡ 4 + 2 * (e - s) = length-data words image s e in
+    let all : length (upperText upper (upperOf words s) ++ recordText (dataBytes words image s e)) ≡ length (upperText upper (upperOf words s)) + length (recordText (dataBytes words image s e)) = length-append (upperText upper (upperOf words s)) (recordText (dataBytes words image s e)) in
+    rw (run-some words image upper s e h) (omega arith)
 
 -- what a run and the upper half take
 run-cost : (words : ℕ) (image : List ℕ) (upper s e : ℕ) → s < e → upper ≤ upperOf words s → upperOf words s ≤ 1 → length (runText words image upper s e) + 16 * (1 - upperOf words s) ≤ 12 + 4 * (e - s) + 16 * (1 - upper)
 run-cost words image upper s e h p q =
-    let d : length (recordText (dataBytes words image s e)) ≡ 2 * length (dataBytes words image s e) + 4 = length-record (dataBytes words image s e) in
-    let n : length (dataBytes words image s e) ≡ 4 + 2 * (e - s) = length-data words image s e in
+    let r : length (runText words image upper s e) ≡ length (upperText upper (upperOf words s)) + (12 + 4 * (e - s)) = length-run words image upper s e h in
     let u : length (upperText upper (upperOf words s)) + 16 * (1 - upperOf words s) ≤ 16 * (1 - upper) = length-upper upper (upperOf words s) p q in
-    let all : length (upperText upper (upperOf words s) ++ recordText (dataBytes words image s e)) ≡ length (upperText upper (upperOf words s)) + length (recordText (dataBytes words image s e)) = length-append (upperText upper (upperOf words s)) (recordText (dataBytes words image s e)) in
-    rw (run-some words image upper s e h) (omega arith)
+    omega arith
+
+-- the records of all runs, and the end record
+pub length-text : (words : ℕ) (image : List ℕ) → length (hexText words image) ≡ 12 + length (textFrom words image (words + 9) 0 0 0)
+unfolding hexText endBytes
+length-text words image =
+    let r : length (recordText endBytes) ≡ 12 = length-record endBytes in
+    let joined : length (textFrom words image (words + 9) 0 0 0 ++ recordText endBytes) ≡ length (textFrom words image (words + 9) 0 0 0) + length (recordText endBytes) = length-append (textFrom words image (words + 9) 0 0 0) (recordText endBytes) in
+    omega arith
 
 module _ (words : ℕ) (image : List ℕ) (m : words ≤ mostWords) where
   abbrev Bound : (n upper s i : ℕ) → Type 0
@@ -153,7 +160,7 @@ module _ (words : ℕ) (image : List ℕ) (m : words ≤ mostWords) where
       let joined : length (runText words image upper s e ++ textFrom words image n u t (i + 1)) ≡ length (runText words image upper s e) + length (textFrom words image n u t (i + 1)) = length-append (runText words image upper s e) (textFrom words image n u t (i + 1)) in
       omega arith
 
-  pub entries-length : length (textFrom words image (words + 9) 0 0 0) ≤ 14 * words + 144
+  entries-length : length (textFrom words image (words + 9) 0 0 0) ≤ 14 * words + 144
   entries-length =
       let b : Bound (words + 9) 0 0 0 = text-bound (words + 9) 0 0 0 (omega arith) (omega arith) (omega arith) in
       let z : held 0 0 ≡ 2 = held-block 0 0 (omega arith) refl in
@@ -161,164 +168,52 @@ module _ (words : ℕ) (image : List ℕ) (m : words ≤ mostWords) where
 
   -- no text is longer than this
   pub text-length : length (hexText words image) ≤ 14 * words + 156
-  unfolding hexText endBytes
   text-length =
       let l : length (textFrom words image (words + 9) 0 0 0) ≤ 14 * words + 144 = entries-length in
-      let r : length (recordText endBytes) ≡ 12 = length-record endBytes in
-      let joined : length (textFrom words image (words + 9) 0 0 0 ++ recordText endBytes) ≡ length (textFrom words image (words + 9) 0 0 0) + length (recordText endBytes) = length-append (textFrom words image (words + 9) 0 0 0) (recordText endBytes) in
+      let all : length (hexText words image) ≡ 12 + length (textFrom words image (words + 9) 0 0 0) = length-text words image in
       omega arith
 
   -- the reader takes every text that is written: refusal 1 never holds for one
   pub text-fits : length (hexText words image) < textLimit
   text-fits = let l : length (hexText words image) ≤ 14 * words + 156 = text-length in omega arith
 
--- ---- the loop over the entries
+-- ---- the count
 
--- where the loop stands before entry i
-pub record Turn (words : ℕ) (image before : List ℕ) (upper start at i : ℕ) (out : List ℕ) : Type 0 where
-  pub left : Left (textFrom words image (words + 9) 0 0 0) 0 before (textFrom words image (words + 9 - i) upper start i) at out
-  pub low : start ≤ i
-  pub block : i ≤ start + i % 8
+-- the text before entry i, where no run is held back, and the end record are counted
+pub record Counted (words : ℕ) (image : List ℕ) (total upper i : ℕ) : Type 0 where
+  pub rest : total + length (textFrom words image (words + 9 - i) upper i i) ≡ length (hexText words image)
+  pub fits : length (hexText words image) < textLimit
   pub high : i ≤ words + 9
 
-pub turn-first : (words : ℕ) (image before : List ℕ) → Turn words image before 0 0 0 0 before
-turn-first words image before =
-    record { left = rw all (left-all (textFrom words image (words + 9) 0 0 0) 0 before); low = omega arith; block = omega arith; high = omega arith }
-  where
-    all : words + 9 - 0 ≡ words + 9
-    all = omega arith
+pub counted-first : (words : ℕ) (image : List ℕ) → words ≤ mostWords → Counted words image 12 0 0
+counted-first words image m =
+    let all : words + 9 - 0 ≡ words + 9 = omega arith in
+    record { rest = rw all (sym (length-text words image)); fits = text-fits words image m; high = omega arith }
 
--- the next entry's part of the text
-text-next : (words : ℕ) (image : List ℕ) (upper s i : ℕ) → i < words + 9 → textFrom words image (words + 9 - i) upper s i ≡ runText words image upper s (runEnd image s i) ++ textFrom words image (words + 9 - (i + 1)) (upperAfter words upper s (runEnd image s i)) (nextStart image s i) (i + 1)
-unfolding textFrom
-text-next words image upper s i h = let more : words + 9 - i ≡ suc (words + 9 - (i + 1)) = omega arith in rw more
+module _ (words : ℕ) (image : List ℕ) (total upper i : ℕ) (c : Counted words image total upper i) where
+  pub counted-skip : i < words + 9 → getD image i 0 ≡ notGiven → Counted words image total upper (i + 1)
+  counted-skip h g = record { rest = rw (text-skip words image (words + 9) upper i h g) at (c .rest); fits = c .fits; high = omega arith }
 
-text-last : (words : ℕ) (image : List ℕ) (upper s i : ℕ) → words + 9 ≤ i → textFrom words image (words + 9 - i) upper s i ≡ runText words image upper s i
-unfolding textFrom
-text-last words image upper s i h = let none : words + 9 - i ≡ 0 = omega arith in rw none
+  pub counted-on : length image ≡ words + 9 → (stop half count : ℕ) → RunTo image i stop → half ≡ upperOf words i → count ≡ length (upperText upper half) + (12 + 4 * (stop - i)) → Counted words image (total + count) half stop
+  counted-on long stop half count run h q =
+      let rest : List ℕ = textFrom words image (words + 9 - stop) half stop stop in
+      let after : upperAfter words upper i stop ≡ half = after-some words image upper i stop (run .more) ∙ sym h in
+      let split : textFrom words image (words + 9 - i) upper i i ≡ runText words image upper i stop ++ rest = rw (long, after) at (run .text words upper) in
+      let joined : length (runText words image upper i stop ++ rest) ≡ length (runText words image upper i stop) + length rest = length-append (runText words image upper i stop) rest in
+      let here : length (runText words image upper i stop) ≡ length (upperText upper half) + (12 + 4 * (stop - i)) = rw h (length-run words image upper i stop (run .more)) in
+      let old : total + length (runText words image upper i stop ++ rest) ≡ length (hexText words image) = rw split at (c .rest) in
+      record { rest = omega arith; fits = c .fits; high = let far : stop ≤ length image = run .inside in omega arith }
 
-left-same : {whole : List ℕ} {first : ℕ} {before : List ℕ} {x y : List ℕ} {at : ℕ} {out : List ℕ} → x ≡ y → Left whole first before x at out → Left whole first before y at out
-left-same e l = rw e at l
-
-run-within : (image : List ℕ) (words s i : ℕ) → s ≤ i → i ≤ s + i % 8 → i < words + 9 → Seen image s i → (runEnd image s i ≤ words + 9) × (runEnd image s i ≤ s + 8)
-run-within image words s i low block far (gap g x y) = rw x (omega arith, omega arith)
-run-within image words s i low block far (full g z x y) = rw x (omega arith, omega arith)
-run-within image words s i low block far (goes g z x y) = rw x (omega arith, omega arith)
-
-next-block : (image : List ℕ) (s i : ℕ) → s ≤ i → i ≤ s + i % 8 → Seen image s i → (nextStart image s i ≤ i + 1) × (i + 1 ≤ nextStart image s i + (i + 1) % 8)
-next-block image s i low block (gap g x y) = rw y (omega arith, omega arith)
-next-block image s i low block (full g z x y) = rw y (omega arith, omega arith)
-next-block image s i low block (goes g z x y) =
-    let more : (i + 1) % 8 ≡ i % 8 + 1 = mod-next i z in
-    rw y (omega arith, omega arith)
-  where
-    mod-next : (k : ℕ) → ((k + 1) % 8 ≡ 0 → ⊥) → (k + 1) % 8 ≡ k % 8 + 1
-    mod-next k n = by (ℕ-discrete (k % 8) 7)
-      where
-        by : Dec (k % 8 ≡ 7) → (k + 1) % 8 ≡ k % 8 + 1
-        by (yes q) = absurd (n (omega arith))
-        by (no q) = let less : k % 8 < 7 = lib.Arith.lt-of-le-ne (omega arith) q in omega arith
-
-module _ (words : ℕ) (image before : List ℕ) (upper s at i : ℕ) (out : List ℕ) (m : words ≤ mostWords) (turn : Turn words image before upper s at i out) where
-  module _ (h : i < words + 9) (stop : ℕ) (e : stop ≡ runEnd image s i) where
-    next : Left (textFrom words image (words + 9) 0 0 0) 0 before (runText words image upper s (runEnd image s i) ++ textFrom words image (words + 9 - (i + 1)) (upperAfter words upper s (runEnd image s i)) (nextStart image s i) (i + 1)) at out
-    next = left-same (text-next words image upper s i h) (turn .left)
-
-    pub turn-far : stop ≤ words + 9
-    turn-far = rw e (run-within image words s i (turn .low) (turn .block) h (seen image s i) .0)
-
-    pub turn-few : stop ≤ s + 8
-    turn-few = rw e (run-within image words s i (turn .low) (turn .block) h (seen image s i) .1)
-
-    pub turn-room : at + length (runText words image upper s stop) ≤ textLimit
-    turn-room =
-        let l : length (textFrom words image (words + 9) 0 0 0) ≤ 14 * words + 144 = entries-length words image m in
-        rw e (left-part (runText words image upper s (runEnd image s i)) _ at out textLimit next (omega arith))
-
-    pub turn-on : (r : ℕ) (after : List ℕ) (u t : ℕ) → Wrote (runText words image upper s stop) at out r after → u ≡ upperAfter words upper s stop → t ≡ nextStart image s i → Turn words image before u t r (i + 1) after
-    turn-on r after u t w q p =
-        record {
-          left = rw (q, p, e) (left-then (runText words image upper s (runEnd image s i)) _ at out r after next (rw e at w));
-          low = rw p (next-block image s i (turn .low) (turn .block) (seen image s i) .0);
-          block = rw p (next-block image s i (turn .low) (turn .block) (seen image s i) .1);
-          high = omega arith;
-        }
-
-  module _ (h : words + 9 ≤ i) where
-    last : Left (textFrom words image (words + 9) 0 0 0) 0 before (runText words image upper s i) at out
-    last = left-same (text-last words image upper s i h) (turn .left)
-
-    pub last-few : i ≤ s + 8
-    last-few = let b : i ≤ s + i % 8 = turn .block in omega arith
-
-    pub last-room : at + length (runText words image upper s i) ≤ textLimit
-    last-room =
-        let l : length (textFrom words image (words + 9) 0 0 0) ≤ 14 * words + 144 = entries-length words image m in
-        left-last (runText words image upper s i) at out textLimit last (omega arith)
-
-    pub turn-done : (r : ℕ) (after : List ℕ) → Wrote (runText words image upper s i) at out r after → Wrote (textFrom words image (words + 9) 0 0 0) 0 before r after
-    turn-done r after w = left-done (runText words image upper s i) at out r after last w
-
--- ---- the end record
-
-module _ (words : ℕ) (image out : List ℕ) (at : ℕ) (mid : List ℕ) (m : words ≤ mostWords) (w : Wrote (textFrom words image (words + 9) 0 0 0) 0 out at mid) where
-  pub end-room : (l : List ℕ) → length l ≡ 4 → at + length (recordText l) ≤ textLimit
-  end-room l four =
-      let n : length (textFrom words image (words + 9) 0 0 0) ≤ 14 * words + 144 = entries-length words image m in
-      let r : length (recordText l) ≡ 2 * length l + 4 = length-record l in
-      let e : at ≡ 0 + length (textFrom words image (words + 9) 0 0 0) = w .end in
+  pub counted-all : words + 9 ≤ i → total ≡ length (hexText words image)
+  counted-all h =
+      let none : textFrom words image (words + 9 - i) upper i i ≡ [] = text-end words image (words + 9) upper i i h ∙ run-none words image upper i i (omega arith) in
+      let z : total + 0 ≡ length (hexText words image) = rw none at (c .rest) in
       omega arith
 
-  pub end-put : (r : ℕ) (after : List ℕ) → Wrote (recordText (0 ∷ 0 ∷ 0 ∷ 1 ∷ [])) at mid r after → Wrote (hexText words image) 0 out r after
-  unfolding hexText endBytes
-  end-put r after v =
-      left-done (recordText (0 ∷ 0 ∷ 0 ∷ 1 ∷ [])) at mid r after
-      (left-then (textFrom words image (words + 9) 0 0 0) (recordText (0 ∷ 0 ∷ 0 ∷ 1 ∷ [])) 0 out at mid (left-all (hexText words image) 0 out) w) v
+-- the code's two lengths of a run's records
+module _ (upper half count : ℕ) where
+  pub run-same : half ≡ upper → 12 + 4 * count ≡ length (upperText upper half) + (12 + 4 * count)
+  run-same e = rw (upper-same upper half e) (omega arith)
 
--- ---- the call's answers
-
--- what the first two tests tell
-pub judged-sound : (d : Device) (image : List ℕ) (number : ℕ) (b : Bool) → number ≡ recordNumber d → number ≡ 0 → b ≡ imageOk (d .words) image → b ≡ true → (d .words ≤ mostWords) × (length image ≡ d .words + 9)
-judged-sound d image number b judged sound e t = (rules-of-judged d (sym judged ∙ sound) .most, image-long (d .words) image (sym e ∙ t))
-
-module _ (d : Device) (image out : List ℕ) (number : ℕ) (judged : number ≡ recordNumber d) where
-  refuses : (n : ℕ) → (n ≡ 0 → ⊥) → writtenHex d image out ≡ refusedWith n → WroteHex d image out (refusedWith n) out
-  unfolding writtenOut
-  refuses n nz e =
-      record {
-        answer = sym e;
-        bytes = sym (pick-false (eqb (writtenHex d image out .number) 0) _ out (ap (λ r. eqb (r .number) 0) e ∙ ne-eqb n 0 nz));
-      }
-
-  pub wrote-13 : (r : WrittenHex) → r ≡ refusedWith 13 → (number ≡ 0 → ⊥) → WroteHex d image out r out
-  unfolding writtenHex
-  wrote-13 r q n =
-      rw q (refuses 13 (λ z. omega arith) (pick-false (deviceOk d) _ _ (bad-of-judged d (λ z. n (judged ∙ z)))))
-
-  module _ (sound : number ≡ 0) where
-    ok : deviceOk d ≡ true
-    ok = ok-of-judged d (sym judged ∙ sound)
-
-    pub wrote-20 : (b : Bool) (r : WrittenHex) → b ≡ imageOk (d .words) image → b ≡ false → r ≡ refusedWith 20 → WroteHex d image out r out
-    unfolding writtenHex pick
-    wrote-20 b r e f q = rw q (refuses 20 (λ z. omega arith) (rw (ok, ← e, f)))
-
-    module _ (b : Bool) (image-is : b ≡ imageOk (d .words) image) (t : b ≡ true) (none counted : List ℕ) (n : ℕ) (count : Wrote (hexText (d .words) image) 0 none n counted) where
-      long : n ≡ length (hexText (d .words) image)
-      long = count .end ∙ omega arith
-
-      pub wrote-26 : (r : WrittenHex) → length out < n → r ≡ refusedWith 26 → WroteHex d image out r out
-      unfolding writtenHex pick
-      wrote-26 r h q = rw q (refuses 26 (λ z. omega arith) (rw (ok, ← image-is, t, ← long, lt-leb n (length out) h)))
-
-      answers : n ≤ length out → record { number = 0; length = n } ≡ writtenHex d image out
-      unfolding writtenHex pick
-      answers h = rw (ok, ← image-is, t, ← long, le-leb n (length out) h)
-
-      pub wrote-0 : (end : ℕ) (after : List ℕ) → n ≤ length out → Wrote (hexText (d .words) image) 0 out end after → WroteHex d image out (record { number = 0; length = n }) after
-      unfolding writtenOut
-      wrote-0 end after h w =
-          record {
-            answer = answers h;
-            bytes = w .bytes ∙ sym (pick-true (eqb (writtenHex d image out .number) 0) _ out (ap (λ r. eqb (r .number) 0) (sym (answers h))));
-          }
+  pub run-new : (half ≡ upper → ⊥) → 16 + 12 + 4 * count ≡ length (upperText upper half) + (12 + 4 * count)
+  run-new n = let l : length (upperText upper half) ≡ 16 = length-new upper half n in omega arith

@@ -13,7 +13,9 @@ pub mod LawsLines
 pub mod LawsImage
 pub mod LawsWrite
 pub mod LawsWriteRun
+pub mod LawsWriteStop
 pub mod LawsWriteText
+pub mod LawsWritePut
 pub mod LawsWriteRecords
 pub mod LawsRoundLine
 pub mod LawsRoundTrip

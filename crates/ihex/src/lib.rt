@@ -6,8 +6,11 @@ mod read;
 mod scan;
 mod step;
 mod write;
+mod write_address;
+mod write_length;
 mod write_record;
 mod write_run;
+mod write_stop;
 
 pub use read::read_hex;
 pub use write::write_hex;

@@ -1,31 +1,22 @@
 -- The entries, and then the end record.
-use mathlib.Core.Path.{refl}
-use Rattle.ihex.specs.LawsWriteText.{end-room, end-put}
+use denote.Ref.{now}
+use Rattle.ihex.specs.LawsWrite.{capitals-told}
+use Rattle.ihex.specs.LawsWritePut.{entries-room, end-room, text-put}
 use borrow.Author.Needs.{needs}
 use Rattle.ihex.proofs.write.put_text.Statement.{statement}
 use Rattle.ihex.proofs.write.put_text.Tie as tie
 
 put-entries-requires : tie.Need-put-entries-requires
-put-entries-requires c κs = search needs
+put-entries-requires c κs = (capitals-told, c .before .before .before .before .pre .0, c .before .before .before .before .pre .1, entries-room (c .before .before .before .before .args .words) (now (c .before .before .before .before .args .image)) (now (c .before .before .before .before .args .out)) (c .before .before .before .before .pre .2))
 
-slice-aggregate-put-record : tie.Need-slice-aggregate-put-record
-slice-aggregate-put-record c = search needs
-
-put-record-requires : tie.Need-put-record-requires
-put-record-requires c κs = end-room _ _ _ _ _ (c .before .before .before .before .before .before .before .before .pre .0) (c .before .before .before .before .put-entries .ensures) _ refl
+put-end-requires : tie.Need-put-end-requires
+put-end-requires c κs = (capitals-told, end-room _ _ _ (c .before .before .before .before .before .before .before .before .before .pre .2) _ _ (c .before .before .before .before .put-entries .ensures))
 
 same-length : tie.Need-same-length
 same-length c = search needs
 
 returns : tie.Need-returns
-returns c = end-put _ _ _ _ _ (c .before .before .before .before .before .before .before .before .before .before .before .pre .0) (c .before .before .before .before .before .before .before .put-entries .ensures) _ _ (c .before .before .put-record .ensures)
+returns c = text-put _ _ _ (c .before .before .before .before .before .before .before .before .before .before .before .before .pre .2) _ _ (c .before .before .before .before .before .before .before .put-entries .ensures) _ (c .before .before .put-end .ensures)
 
 pub put-text-spec : {M : Type 1} → statement M
-put-text-spec =
-    tie.close
-    (tie.spec
-    put-entries-requires
-    slice-aggregate-put-record
-    put-record-requires
-    same-length
-    returns)
+put-text-spec = tie.close (tie.spec put-entries-requires put-end-requires same-length returns)

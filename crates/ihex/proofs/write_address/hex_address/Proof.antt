@@ -1,8 +1,8 @@
 -- An entry of the image always has a place.
 use Rattle.ihex.specs.LawsWriteRun.{address-at, address-nowhere}
 use borrow.Author.Needs.{needs}
-use Rattle.ihex.proofs.write_run.hex_address.Statement.{statement}
-use Rattle.ihex.proofs.write_run.hex_address.Tie as tie
+use Rattle.ihex.proofs.write_address.hex_address.Statement.{statement}
+use Rattle.ihex.proofs.write_address.hex_address.Tie as tie
 
 address-of-requires : tie.Need-address-of-requires
 address-of-requires c κs = search needs
