@@ -6,6 +6,7 @@ pub mod Writer
 pub mod LawsLine
 pub mod LawsDecode
 pub mod LawsGive
+pub mod LawsGiveProgram
 pub mod LawsReader
 pub mod LawsScan
 pub mod LawsNext

@@ -15,6 +15,7 @@ ghost use Rattle.ihex.specs.Line.{countOf};
 ghost use Rattle.ihex.specs.Reader.{entryAt, canGive, giveWords};
 ghost use Rattle.ihex.specs.LawsDecode.{Sound};
 ghost use Rattle.ihex.specs.LawsGive.{reading};
+ghost use Rattle.ihex.specs.LawsGiveProgram.{FirstEntry};
 
 // Gives words until one is refused: 0, or the first of 7, 8, 9 that holds, whatever line the bytes are those of.
 pub(crate) fn give_words(words: u16, upper: u32, bytes: &[u8], image: &mut [u16]) -> u8
@@ -73,13 +74,30 @@ fn can_give(words: u16, entry: usize) -> bool
     program + 7 <= entry
 }
 
-// Word j of a record's bytes, low byte first.
+// Word j of a record's bytes.
 fn word_of(bytes: &[u8], j: u8) -> u16
     requires { ⌜ (length (now bytes) ≡ 260) × (j < 128) ⌝ }
     ensures { λ r. ⌜ r ≡ getD (now (bytes .entry)) (4 + 2 * j) 0 + 256 * getD (now (bytes .entry)) (5 + 2 * j) 0 ⌝ }
 {
-    let at = 2 * (j as usize);
+    word_at(bytes, j as usize)
+}
+
+// The same by a place as wide as an index, low byte first.
+pub(crate) fn word_at(bytes: &[u8], j: usize) -> u16
+    requires { ⌜ (length (now bytes) ≡ 260) × (j < 128) ⌝ }
+    ensures { λ r. ⌜ r ≡ getD (now (bytes .entry)) (4 + 2 * j) 0 + 256 * getD (now (bytes .entry)) (5 + 2 * j) 0 ⌝ }
+{
+    let at = 2 * j;
     let low = bytes[4 + at];
     let high = bytes[5 + at];
     (low as u16) + 256 * (high as u16)
+}
+
+// The entry of a record's first word, whatever line the bytes are those of.
+pub(crate) fn first_entry(words: u16, upper: u32, bytes: &[u8]) -> usize
+    requires { ⌜ length (now bytes) ≡ 260 ⌝ }
+    ensures { λ r. ⌜ FirstEntry words upper (now (bytes .entry)) r ⌝ }
+{
+    let offset = offset_of(bytes);
+    entry_at(words, words::address::halve(byte_address(upper, offset, 0)))
 }

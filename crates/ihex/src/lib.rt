@@ -1,5 +1,6 @@
 // Intel HEX: reader and writer. No call here has a `requires`.
 mod give;
+mod give_program;
 mod line;
 pub mod lines;
 mod read;

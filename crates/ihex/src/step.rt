@@ -1,5 +1,7 @@
 // What one line does to a reading.
+use crate::give::first_entry;
 use crate::give::give_words;
+use crate::give_program::give_program;
 use crate::line::judge_line;
 use crate::line::line_end;
 ghost use mathlib.Core.Path.{_≡_};
@@ -12,7 +14,7 @@ ghost use Rattle.words.specs.Hex.{digitOf};
 ghost use Rattle.ihex.specs.Line.{withoutCr};
 ghost use Rattle.ihex.specs.Reader.{recordStep, lineStep};
 ghost use Rattle.ihex.specs.LawsDecode.{Sound};
-ghost use Rattle.ihex.specs.LawsGive.{reading};
+ghost use Rattle.ihex.specs.LawsGive.{reading, Gives};
 
 // Where a reading stands after a line: the end record was seen, the upper half, and a refusal or 0.
 pub(crate) struct Step {
@@ -83,7 +85,7 @@ fn take_record(words: u16, bytes: &[u8], upper: u32, image: &mut [u16]) -> Step
 {
     let kind = bytes[3];
     if kind == 0 {
-        let given = give_words(words, upper, bytes, image);
+        let given = give_record(words, upper, bytes, image);
         return Step {
             ended: false,
             upper,
@@ -104,4 +106,17 @@ fn take_record(words: u16, bytes: &[u8], upper: u32, image: &mut [u16]) -> Step
         upper: 256 * (high as u32) + (low as u32),
         number: 0,
     }
+}
+
+// The words of a data record, by the short way where all of them lie in program space.
+fn give_record(words: u16, upper: u32, bytes: &[u8], image: &mut [u16]) -> u8
+    requires { ⌜ (length (now bytes) ≡ 260) × (length (now image) ≡ words + 9) ⌝ }
+    ensures { λ r. ⌜ Gives words upper (now (bytes .entry)) (now (image .entry)) (now (image .exit)) r ⌝ }
+{
+    let first = first_entry(words, upper, bytes);
+    let n = (bytes[0] / 2) as usize;
+    if first + n <= words as usize {
+        return give_program(first, n, bytes, image);
+    }
+    give_words(words, upper, bytes, image)
 }

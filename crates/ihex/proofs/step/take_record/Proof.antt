@@ -9,14 +9,14 @@ use Rattle.ihex.proofs.step.take_record.Tie as tie
 shared-slice-read-kind : tie.Need-shared-slice-read-kind
 shared-slice-read-kind c = search needs
 
-give-words-requires : tie.Need-give-words-requires
-give-words-requires c κs = search needs
+give-record-requires : tie.Need-give-record-requires
+give-record-requires c κs = search needs
 
 same-length : tie.Need-same-length
 same-length c = search needs
 
 returns : tie.Need-returns
-returns c = λ line s. record-data _ line _ _ _ (sound-byte line _ s 3 (omega arith)) (c .before .before .before .before .if1 .taken) _ _ (c .before .before .give-words .ensures line s)
+returns c = λ line s. record-data _ line _ _ _ (sound-byte line _ s 3 (omega arith)) (c .before .before .before .before .if1 .taken) _ _ (c .before .before .give-record .ensures line s)
 
 returns-2 : tie.Need-returns-2
 returns-2 c = λ line s. record-end _ line _ _ _ (sound-byte line _ s 3 (omega arith)) (c .before .if1 .left) (c .if2 .taken)
@@ -47,7 +47,7 @@ take-record-spec =
     tie.close
     (tie.spec
     shared-slice-read-kind
-    give-words-requires
+    give-record-requires
     same-length
     returns
     returns-2

@@ -2,8 +2,8 @@
 use Prim.Native.Nat.{_+_, _*_}
 use native.Mathlib.Omega.{arith}
 use borrow.Author.Needs.{needs}
-use Rattle.ihex.proofs.give.word_of.Statement.{statement}
-use Rattle.ihex.proofs.give.word_of.Tie as tie
+use Rattle.ihex.proofs.give.word_at.Statement.{statement}
+use Rattle.ihex.proofs.give.word_at.Tie as tie
 
 mul-at : tie.Need-mul-at
 mul-at c = search needs
@@ -35,8 +35,8 @@ add-result c = omega (arith, c .before .shared-slice-known .given (4 + 2 * c .be
 returns : tie.Need-returns
 returns c = search needs
 
-pub word-of-spec : {M : Type 1} → statement M
-word-of-spec =
+pub word-at-spec : {M : Type 1} → statement M
+word-at-spec =
     tie.close
     (tie.spec
     mul-at
