@@ -10,8 +10,8 @@ use Rattle.judge.specs.declared.Sum.{Sum}
 use Rattle.judge.specs.declared.Verdict.{Verdict}
 use Rattle.sheet.specs.declared.Line1.{Line1}
 use Rattle.sheet.specs.declared.Written.{Written}
-use Rattle.ihex.specs.declared.ReadHex.{ReadHex}
-use Rattle.ihex.specs.declared.WrittenHex.{WrittenHex}
+use Rattle.hexread.specs.declared.ReadHex.{ReadHex}
+use Rattle.hexwrite.specs.declared.WrittenHex.{WrittenHex}
 use Rattle.target.specs.declared.Ran.{Ran}
 use Rattle.plan.specs.declared.Planned.{Planned}
 

@@ -1,7 +1,7 @@
 // Intel HEX text.
 use crate::record::device_at;
-ghost use Rattle.ihex.specs.Reader.{HexRead};
-ghost use Rattle.ihex.specs.Writer.{WroteHex};
+ghost use Rattle.hexread.specs.Reader.{HexRead};
+ghost use Rattle.hexwrite.specs.Writer.{WroteHex};
 ghost use Rattle.capi.specs.Crossing.{deviceAt, readAnswer, hexAnswer};
 
 // HEX text read into an image.
@@ -14,7 +14,7 @@ pub extern "C" fn tickmallet_read_hex(
 ) -> u8
     ensures { λ r. ⌜ HexRead (deviceAt (now (numbers .entry))) (now (text .entry)) (now (image .entry)) (readAnswer r (now (line .exit))) (now (image .exit)) ⌝ }
 {
-    let a = ihex::read_hex(device_at(numbers), text, image);
+    let a = hexread::read_hex(device_at(numbers), text, image);
     *line = a.line;
     a.number
 }
@@ -29,7 +29,7 @@ pub extern "C" fn tickmallet_write_hex(
 ) -> u8
     ensures { λ r. ⌜ WroteHex (deviceAt (now (numbers .entry))) (now (image .entry)) (now (out .entry)) (hexAnswer r (now (length .exit))) (now (out .exit)) ⌝ }
 {
-    let w = ihex::write_hex(device_at(numbers), image, out);
+    let w = hexwrite::write_hex(device_at(numbers), image, out);
     *length = w.length;
     w.number
 }

@@ -10,7 +10,7 @@ use Rattle.target.specs.declared.Registers.{Registers}
 use Rattle.target.specs.declared.Stepped.{Stepped}
 use Rattle.lent.proofs.step_on.Reads as step-on
 use Rattle.lent.proofs.step_method.Reads as step-method
-use Rattle.lent.proofs.lines.first_number.Reads as first-number
+use Rattle.lent.proofs.text.first_number.Reads as first-number
 
 same-steps : {d : Device} {h : Registers} {c p : ℕ} {ws cs ws₁ ws₂ cs₁ cs₂ : List ℕ} (r s : Stepped) → Steps d h c p ws cs (r .number) (r .registers) ws₁ cs₁ → Steps d h c p ws cs (s .number) (s .registers) ws₂ cs₂
     → (r ≡ s) × (ws₁ ≡ ws₂) × (cs₁ ≡ cs₂)

@@ -1,10 +1,10 @@
 // The calls that a struct is lent to, asked with plain values. No public call here has a `requires`.
-mod lines;
+mod text;
 
 use device::Device;
-pub use lines::first_number;
 use target::Registers;
 use target::Stepped;
+pub use text::first_number;
 ghost use Rattle.target.specs.Step.{Steps};
 
 // One step by `target::step_on`: the registers are lent to it, and come back with its number.

@@ -19,7 +19,7 @@ pub(crate) fn file(name: &[u8]) {
     let mut text = io::large_buffer();
     let n = files::read(os::open_read(name), &mut text);
     let mut image = [NOT_GIVEN; 8201];
-    let r = ihex::read_hex(PIC16F1459, &text[..n], &mut image);
+    let r = hexread::read_hex(PIC16F1459, &text[..n], &mut image);
     io::write_all(STDOUT_FILENO, name);
     io::write_all(STDOUT_FILENO, b"\t");
     io::print_decimal(STDOUT_FILENO, r.number as u64);

@@ -7,7 +7,7 @@ use lib.Dec.{eqb, leb}
 use lib.ListN.{length, getD, set, replicate}
 use Rattle.words.specs.Word.{erased, notGiven}
 use Rattle.device.specs.declared.Device.{Device}
-use Rattle.ihex.specs.Reader.{readOf}
+use Rattle.hexread.specs.Reader.{readOf}
 use Rattle.judge.specs.Checksum.{checksumOf}
 use Rattle.plan.specs.Steps.{updateSteps}
 use Rattle.target.specs.Run.{ran}

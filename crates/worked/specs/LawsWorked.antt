@@ -9,9 +9,10 @@ use Rattle.words.specs.Hex.{within, digitOf, joined, byteBy}
 use Rattle.words.specs.Address.{placed, halved, entryOf, successor}
 use Rattle.device.specs.Record.{rowOk, wordsOk, deviceOk}
 use Rattle.device.specs.Memory
-use Rattle.ihex.specs.Line.{withoutCr, allWithoutCr, linesOf, byteAt, countOf, offsetOf, typeOf, isRecord, bytesTo, sumOk, typeOk, shapeOk, dataOk, lineNumber}
-use Rattle.ihex.specs.Reader.{wordOf, byteAddress, entryAt, entryOfWord, canGive, wordNumber, giveWords, recordStep, lineRefused, lineStep, blankImage, refusedAt, readLines, readOf}
-use Rattle.ihex.specs.Reader
+use Rattle.lines.specs.Lines.{withoutCr, allWithoutCr, linesOf}
+use Rattle.hexread.specs.Line.{byteAt, countOf, offsetOf, typeOf, isRecord, bytesTo, sumOk, typeOk, shapeOk, dataOk, lineNumber}
+use Rattle.hexread.specs.Reader.{wordOf, byteAddress, entryAt, entryOfWord, canGive, wordNumber, giveWords, recordStep, lineRefused, lineStep, blankImage, refusedAt, readLines, readOf}
+use Rattle.hexread.specs.Reader
 use Rattle.judge.specs.Checksum.{sumTo, configSum, nibbles, checksumOf}
 use Rattle.plan.specs.Wanted.{known, wanted, differs, some, rowDiffers, idDiffers, updateWrites}
 use Rattle.plan.specs.Steps.{walk, loads, erasing, rowSteps, rowsFrom, wordSteps, writesFrom, configSteps, updateSteps}

@@ -1,0 +1,179 @@
+-- Laws of giving the words of a data record to an image.
+use Prim.Native.Nat.{ℕ, zero, suc, _+_, _-_, _*_, _/_, _≤_, _<_}
+use native.Mathlib.Decide.{decLt}
+use native.Mathlib.Omega.{arith}
+use mathlib.Core.Path.{_≡_, refl, sym, ap, _∙_}
+use mathlib.Core.Bool.{Bool, true, false, not}
+use mathlib.Core.List.{List, [], _∷_}
+use lib.Dec.{ltb, leb}
+use lib.ListN.{length, getD, set, length-set}
+use borrow.Author.Tests.{lt-ltb, le-ltb, le-leb, lt-leb, eq-eqb, ne-eqb, ltb-true}
+use Rattle.words.specs.Choice.{pick}
+use Rattle.words.specs.Word.{notGiven}
+use Rattle.words.specs.Lists.{inRange}
+use Rattle.words.specs.Address.{halved}
+use Rattle.words.specs.declared.ByteAddress.{ByteAddress}
+use Rattle.words.specs.declared.Place.{Place}
+use Rattle.words.specs.LawsChoice.{first-holds}
+use Rattle.words.specs.LawsWord.{is-word, not-word}
+use Rattle.words.specs.LawsLists.{in-range, below-range, above-range}
+use Rattle.device.specs.Memory.{readingTail}
+use Rattle.hexread.specs.Line.{countOf}
+use Rattle.hexread.specs.Reader.{wordOf, byteAddress, entryAt, entryOfWord, canGive, wordNumber, Reading, giveWords}
+use Rattle.hexread.specs.LawsLine.{OffsetRead}
+use Rattle.hexread.specs.LawsDecode.{OffsetOf, Sound, sound-count, sound-offset, sound-word}
+
+-- where a reading stands, by its four values
+abbrev pub reading : Bool → ℕ → List ℕ → ℕ → Reading
+reading ended upper image number = record { ended = ended; upper = upper; image = image; number = number }
+
+-- where a list has an entry it reads the same, whatever it reads past its end
+pub getD-default : (l : List ℕ) (i d e : ℕ) → i < length l → getD l i d ≡ getD l i e
+getD-default [] i d e h = absurd (omega arith)
+getD-default (x ∷ l) zero d e h = refl
+getD-default (x ∷ l) (suc i) d e h = getD-default l i d e (omega arith)
+
+-- ---- a word, and where it goes
+
+pub address-read : (upper : ℕ) (line : List ℕ) (offset j : ℕ) → OffsetRead line offset → _≡_ {A = ByteAddress} (record { 0 = upper * 65536 + offset + 2 * j }) (byteAddress upper line j)
+unfolding byteAddress
+address-read upper line offset j o = rw (o .value)
+
+pub entry-read : (words upper : ℕ) (line : List ℕ) (offset j entry : ℕ) (b : ByteAddress) (p : Place) → OffsetRead line offset
+    → b ≡ record { 0 = upper * 65536 + offset + 2 * j } → p ≡ halved b → entry ≡ entryAt words p → entry ≡ entryOfWord words upper line j
+unfolding entryOfWord
+entry-read words upper line offset j entry b p o eb ep e =
+    e ∙ ap (entryAt words) (ep ∙ ap halved (eb ∙ address-read upper line offset j o))
+
+module _ (words entry : ℕ) where
+  pub give-past : words + 9 ≤ entry → canGive words entry ≡ false
+  unfolding canGive
+  give-past h = rw (le-ltb entry (words + readingTail) h)
+
+  pub give-low : entry < words + 4 → canGive words entry ≡ true
+  unfolding canGive
+  give-low h = rw (lt-ltb entry (words + readingTail) (omega arith), below-range (words + 4) 3 entry h)
+
+  -- the last test of the code
+  pub give-high : entry < words + 9 → words + 4 ≤ entry → canGive words entry ≡ leb (words + 7) entry
+  unfolding canGive
+  give-high h k = by (decLt entry (words + 7))
+    where
+      by : Dec (entry < words + 7) → canGive words entry ≡ leb (words + 7) entry
+      by (yes p) = rw (lt-ltb entry (words + readingTail) h, in-range (words + 4) 3 entry k (omega arith), lt-leb (words + 7) entry p)
+      by (no p) = rw (lt-ltb entry (words + readingTail) h, above-range (words + 4) 3 entry (omega arith), le-leb (words + 7) entry (omega arith))
+
+  pub can-give-lt : canGive words entry ≡ true → entry < words + 9
+  unfolding canGive
+  can-give-lt t = ltb-true entry (words + readingTail) (first-holds (ltb entry (words + readingTail)) (not (inRange (words + 4) 3 entry)) t)
+
+-- ---- one turn over the words that are left
+
+module _ (words upper : ℕ) (line image : List ℕ) where
+  pub give-none : (j n : ℕ) → n ≤ j → giveWords words upper line image j (n - j) ≡ reading false upper image 0
+  unfolding giveWords
+  give-none j n h = let z : n - j ≡ 0 = omega arith in rw z
+
+  module _ (j n : ℕ) (left : j < n) where
+    next : n - j ≡ suc (n - (j + 1))
+    next = omega arith
+
+    give-stop : (k : ℕ) → wordNumber words upper line image j ≡ k → (k ≡ 0 → ⊥) → giveWords words upper line image j (n - j) ≡ reading false upper image k
+    unfolding giveWords pick
+    give-stop k e z = rw (next, e, ne-eqb k 0 z)
+
+    give-on : wordNumber words upper line image j ≡ 0
+        → giveWords words upper line image j (n - j) ≡ giveWords words upper line (set image (entryOfWord words upper line j) (wordOf line j)) (j + 1) (n - (j + 1))
+    give-on e = rw next (unfold giveWords pick in rw e)
+
+    module _ (entry : ℕ) (at : entry ≡ entryOfWord words upper line j) where
+      pub turn-7 : canGive words entry ≡ false → giveWords words upper line image j (n - j) ≡ reading false upper image 7
+      turn-7 f = give-stop 7 (unfold wordNumber pick in rw (← at, f)) (λ z. omega arith)
+
+      module _ (can : canGive words entry ≡ true) (word : ℕ) (w : word ≡ wordOf line j) where
+        pub turn-8 : 0x4000 ≤ word → giveWords words upper line image j (n - j) ≡ reading false upper image 8
+        turn-8 h = give-stop 8 (unfold wordNumber pick in rw (← at, can, ← w, not-word word h)) (λ z. omega arith)
+
+        module _ (low : word < 0x4000) (here : entry < length image) where
+          pub turn-9 : (getD image entry 0 ≡ notGiven → ⊥) → giveWords words upper line image j (n - j) ≡ reading false upper image 9
+          turn-9 h =
+              give-stop 9
+              (unfold wordNumber pick in rw (← at, can, ← w, is-word word low, getD-default image entry notGiven 0 here, ne-eqb (getD image entry 0) notGiven h))
+              (λ z. omega arith)
+
+          pub turn-on : getD image entry 0 ≡ notGiven
+              → giveWords words upper line image j (n - j) ≡ giveWords words upper line (set image entry word) (j + 1) (n - (j + 1))
+          turn-on h =
+              give-on (unfold wordNumber pick in rw (← at, can, ← w, is-word word low, getD-default image entry notGiven 0 here, eq-eqb (getD image entry 0) notGiven h))
+              ∙ rw (at, w)
+
+-- ---- the loop over a record's words
+
+-- what giving words comes to, whatever line the bytes are those of
+abbrev pub Gives : (words upper : ℕ) → (bytes image₀ image : List ℕ) → ℕ → Type 0
+Gives words upper bytes image₀ image number =
+    (line : List ℕ) → Sound line bytes → reading false upper image number ≡ giveWords words upper line image₀ 0 (countOf line / 2)
+
+-- j of n words are given
+pub record Giving (words upper : ℕ) (bytes image₀ : List ℕ) (offset n : ℕ) (image : List ℕ) (j : ℕ) : Type 0 where
+  pub within : j ≤ n
+  pub few : n < 128
+  pub size : n ≡ getD bytes 0 0 / 2
+  pub long : length image ≡ words + 9
+  pub kept : length image ≡ length image₀
+  pub start : OffsetOf bytes offset
+  pub rest : (line : List ℕ) → Sound line bytes → giveWords words upper line image j (n - j) ≡ giveWords words upper line image₀ 0 (countOf line / 2)
+
+module _ (words upper : ℕ) (bytes image₀ : List ℕ) (offset : ℕ) where
+  pub giving-none : OffsetOf bytes offset → getD bytes 0 0 < 256 → length image₀ ≡ words + 9 → Giving words upper bytes image₀ offset (getD bytes 0 0 / 2) image₀ 0
+  giving-none o c l =
+      let all : getD bytes 0 0 / 2 - 0 ≡ getD bytes 0 0 / 2 = omega arith in
+      record {
+        within = omega arith;
+        few = omega arith;
+        size = refl;
+        long = l;
+        kept = refl;
+        start = o;
+        rest = λ line s. rw (all, sound-count line bytes s);
+      }
+
+  module _ (n : ℕ) (image : List ℕ) (j : ℕ) (g : Giving words upper bytes image₀ offset n image j) where
+    pub giving-all : n ≤ j → Gives words upper bytes image₀ image 0
+    giving-all h line s = sym (give-none words upper line image j n h) ∙ g .rest line s
+
+    module _ (left : j < n) (b : ByteAddress) (eb : b ≡ record { 0 = upper * 65536 + offset + 2 * j }) (p : Place) (ep : p ≡ halved b) (entry : ℕ) (e : entry ≡ entryAt words p) where
+      at : (line : List ℕ) → Sound line bytes → entry ≡ entryOfWord words upper line j
+      at line s = entry-read words upper line offset j entry b p (sound-offset line bytes s offset (g .start)) eb ep e
+
+      module _ (can : Bool) (ec : can ≡ canGive words entry) where
+        pub giving-7 : can ≡ false → Gives words upper bytes image₀ image 7
+        giving-7 f line s = sym (turn-7 words upper line image j n left entry (at line s) (sym ec ∙ f)) ∙ g .rest line s
+
+        module _ (t : can ≡ true) where
+          pub entry-lt : entry < length image
+          entry-lt = rw (g .long) (can-give-lt words entry (sym ec ∙ t))
+
+          module _ (word : ℕ) (w : word ≡ getD bytes (4 + 2 * j) 0 + 256 * getD bytes (5 + 2 * j) 0) where
+            is : (line : List ℕ) → Sound line bytes → word ≡ wordOf line j
+            is line s = sound-word line bytes s j word (rw (g .size) at left) w
+
+            pub giving-8 : 0x4000 ≤ word → Gives words upper bytes image₀ image 8
+            giving-8 h line s = sym (turn-8 words upper line image j n left entry (at line s) (sym ec ∙ t) word (is line s) h) ∙ g .rest line s
+
+            module _ (low : word < 0x4000) where
+              pub giving-9 : (getD image entry 0 ≡ notGiven → ⊥) → Gives words upper bytes image₀ image 9
+              giving-9 h line s = sym (turn-9 words upper line image j n left entry (at line s) (sym ec ∙ t) word (is line s) low entry-lt h) ∙ g .rest line s
+
+              pub giving-on : getD image entry 0 ≡ notGiven → Giving words upper bytes image₀ offset n (set image entry word) (j + 1)
+              giving-on h =
+                  let same : length (set image entry word) ≡ length image = length-set image entry word in
+                  record {
+                    within = omega arith;
+                    few = g .few;
+                    size = g .size;
+                    long = same ∙ g .long;
+                    kept = same ∙ g .kept;
+                    start = g .start;
+                    rest = λ line s. sym (turn-on words upper line image j n left entry (at line s) (sym ec ∙ t) word (is line s) low entry-lt h) ∙ g .rest line s;
+                  }

@@ -1,0 +1,1 @@
+// What is written as HEX is read back as the same image.

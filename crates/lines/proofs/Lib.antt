@@ -1,0 +1,2 @@
+-- That the promises determine what they speak of.
+pub mod Determined
