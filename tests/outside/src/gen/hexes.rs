@@ -196,7 +196,8 @@ fn bad_lines(d: &Device, number: u32, rng: &mut Rng) -> Vec<Line> {
         }
         6 => {
             let mut address = rng.u16();
-            let mut data = bytes(7, rng);
+            let most = rng.pick(&[7, 7, 7, 254]);
+            let mut data = bytes(most, rng);
             if rng.chance(50) {
                 address |= 1;
             } else if data.len() % 2 == 0 {
