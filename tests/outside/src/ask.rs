@@ -153,7 +153,23 @@ fn ask_once(
     (answered, ended)
 }
 
-/// Answers every request of an input, as the command should; stops at a malformed one. Answers whether all were sound.
+/// What a line is answered with: a request's answer, a comment itself, each with its LF; or why it is malformed.
+fn answer_to(text: &[u8]) -> Result<Vec<u8>, &'static str> {
+    let whole = match text.strip_suffix(b"\n") {
+        Some(whole) => whole,
+        None if text.len() == LINE_MAX => return Err("the line is too long"),
+        None => return Err("the input ends inside a line"),
+    };
+    if whole.starts_with(b"#") {
+        return Ok(text.to_vec());
+    }
+    let request = parse(whole)?;
+    let mut answer = line(request.call().name, &request.own().fields);
+    answer.push(b'\n');
+    Ok(answer)
+}
+
+/// Answers every line of an input, as the command should; stops at a malformed one. Answers whether all were sound.
 fn answer_all(
     input: &mut impl BufRead,
     output: &mut impl Write,
@@ -171,17 +187,8 @@ fn answer_all(
         {
             break;
         }
-        let request = match text.strip_suffix(b"\n") {
-            Some(whole) => parse(whole),
-            None if text.len() == LINE_MAX => Err("the line is too long"),
-            None => Err("the input ends inside a line"),
-        };
-        let sent = match request {
-            Ok(r) => {
-                let mut answer = line(r.call().name, &r.own().fields);
-                answer.push(b'\n');
-                output.write_all(&answer)
-            }
+        let sent = match answer_to(&text) {
+            Ok(answer) => output.write_all(&answer),
             Err(why) => {
                 let _ = output.flush();
                 let _ = writeln!(messages, "answer: line {number}: {why}");

@@ -1,8 +1,9 @@
 //! What each program prints, from the content of its files.
 
-use crate::device::{find, Device};
+use crate::board::{board, record, Refusal};
+use crate::device::Device;
 use crate::words::{capital, spelled, NOT_GIVEN, WORD_MAX};
-use crate::{hex, judge, model, sheet, streams};
+use crate::{hex, judge, model, print, sheet, streams};
 
 /// The most lines of a printed stream that `trial` plays.
 pub const TRIAL_LINES: usize = 32_768;
@@ -13,35 +14,14 @@ pub struct Printed {
     pub text: Vec<u8>,
 }
 
-type Refusal = (u32, usize);
-
 fn printed(result: Result<(u32, Vec<u8>), Refusal>) -> Printed {
     match result {
         Ok((number, text)) => Printed { number, text },
         Err((number, line)) => Printed {
             number,
-            text: format!("refused\t{number}\t{line}\n").into_bytes(),
+            text: print::refusal(number, line as u64),
         },
     }
-}
-
-/// The device of a sheet's first line: 15, 14 for that line, 16.
-fn device_of(table: &[u8], sheet: &[u8]) -> Result<Device, Refusal> {
-    // A malformed table is told before the sheet is looked at, whatever ID would be asked for.
-    if crate::device::table(table).is_none() {
-        return Err((15, 0));
-    }
-    let id = sheet::first_line(sheet).ok_or((14, 0))?;
-    find(table, id)
-        .map(|l| l.device)
-        .map_err(|number| (number, 0))
-}
-
-/// Device and reading: the above, then 14 for the rest of the sheet.
-fn board(table: &[u8], sheet: &[u8]) -> Result<(Device, Vec<u16>), Refusal> {
-    let d = device_of(table, sheet)?;
-    let reading = sheet::reading(&d, sheet).ok_or((14, 0))?;
-    Ok((d, reading))
 }
 
 /// Code, tab, payload, a line a step.
@@ -55,7 +35,7 @@ pub fn stream_text(stream: &[u8]) -> Vec<u8> {
 pub fn checksum(table: &[u8], sheet: &[u8]) -> Printed {
     printed(board(table, sheet).and_then(|(d, reading)| {
         let sum = judge::checksum(&d, &reading).map_err(|number| (number, 0))?;
-        Ok((0, format!("{sum:04X}\n").into_bytes()))
+        Ok((0, print::sum(sum)))
     }))
 }
 
@@ -63,17 +43,13 @@ pub fn verify(table: &[u8], sheet: &[u8], wanted: &[u8]) -> Printed {
     printed(board(table, sheet).and_then(|(d, reading)| {
         let wanted = sheet::reading(&d, wanted).ok_or((14, 0))?;
         let (number, address, count) = judge::verify(&d, &wanted, &reading);
-        let text = match number {
-            40 => format!("40\t{address:04X}\t{count}\n"),
-            _ => format!("{number}\n"),
-        };
-        Ok((number, text.into_bytes()))
+        Ok((number, print::verdict(number, address, count as u64)))
     }))
 }
 
 /// Reads line 1 of the sheet alone.
 pub fn readback(table: &[u8], sheet: &[u8]) -> Printed {
-    printed(device_of(table, sheet).map(|d| (0, stream_text(&streams::read_back_stream(&d)))))
+    printed(record(table, sheet).map(|d| (0, stream_text(&streams::read_back_stream(&d)))))
 }
 
 pub fn update(table: &[u8], sheet: &[u8], text: &[u8]) -> Printed {

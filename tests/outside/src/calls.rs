@@ -5,7 +5,7 @@ use crate::field::Kind::{self, Bytes, Latches, Num, Words};
 use crate::field::{self, Field};
 use crate::model::{self, Registers};
 use crate::words as w;
-use crate::{bench, hex, judge, sheet, streams};
+use crate::{bench, board, hex, judge, print, sheet, streams};
 
 /// An answer's fields, and the number that it is counted under.
 pub struct Reply {
@@ -23,7 +23,7 @@ pub struct Call {
 
 /// What 0 and 1 mean for calls that give no refusal numbers.
 pub const CLASSES: &str =
-    "words.*, next_line, line_from, first_number: 0 found or done, 1 nothing there (no room); is_words, is_image: the answer";
+    "words.*, print.*, next_line, line_from, first_number: 0 found or done, 1 nothing there (no room); is_words, is_image: the answer";
 
 #[derive(Clone, Debug)]
 pub struct Request {
@@ -150,28 +150,50 @@ fn written(number: u32, value: usize, out: Vec<u8>) -> Reply {
     reply(number, vec![number.into(), value.into(), out.into()])
 }
 
-/// A program's text in the lent buffer, as far as there is room; its whole length.
-fn shown(printed: &bench::Printed, out: &[u8]) -> Reply {
+/// A text in the lent buffer, as far as there is room; its whole length.
+fn laid(text: &[u8], out: &[u8]) -> Vec<Field> {
     let mut out = out.to_vec();
-    let room = printed.text.len().min(out.len());
-    out[..room].copy_from_slice(&printed.text[..room]);
-    reply(printed.number, vec![printed.text.len().into(), out.into()])
+    let room = text.len().min(out.len());
+    out[..room].copy_from_slice(&text[..room]);
+    vec![text.len().into(), out.into()]
+}
+
+/// What a program prints, counted under its number.
+fn shown(printed: &bench::Printed, out: &[u8]) -> Reply {
+    reply(printed.number, laid(&printed.text, out))
+}
+
+/// A text by itself, counted by whether it has room.
+fn put_text(text: &[u8], out: &[u8]) -> Reply {
+    reply(u32::from(text.len() > out.len()), laid(text, out))
+}
+
+/// Number and record.
+fn opened(number: u32, table: &[u8], sheet: &[u8]) -> Reply {
+    let mut fields = vec![number.into()];
+    fields.extend(device_fields(&board::answered(table, sheet)));
+    reply(number, fields)
+}
+
+fn open_record(f: &[Field]) -> Reply {
+    let (table, sheet) = (field::bytes(f, 0), field::bytes(f, 1));
+    let number = board::record(table, sheet).err().map_or(0, |(n, _)| n);
+    opened(number, table, sheet)
+}
+
+fn open_board(f: &[Field]) -> Reply {
+    let (table, sheet) = (field::bytes(f, 0), field::bytes(f, 1));
+    let mut buffer = vec![n16(f, 2); board::READING_MAX];
+    let number = board::open(table, sheet, &mut buffer);
+    let mut answer = opened(number, table, sheet);
+    answer.fields.push(buffer.into());
+    answer
 }
 
 fn find_device(f: &[Field]) -> Reply {
     let (number, d, name) = match device::find(field::bytes(f, 0), n16(f, 1)) {
         Ok(listed) => (0, listed.device, listed.name),
-        Err(n) => (
-            n,
-            Device {
-                id: 0,
-                words: 0,
-                row: 0,
-                mask1: 0,
-                mask2: 0,
-            },
-            0..0,
-        ),
+        Err(n) => (n, Device::NONE, 0..0),
     };
     let mut fields = vec![number.into()];
     fields.extend(device_fields(&d));
@@ -233,24 +255,20 @@ fn run(f: &[Field]) -> Reply {
     )
 }
 
-/// The line that begins at a place, after the line of that number: nothing moves at the text's end.
+/// The line that begins at a place, after the line of that number. At the text's end or past it there is none: an empty
+/// one stands at the end, and place and number stay.
 fn next_line(f: &[Field]) -> Reply {
     let (text, at, line) = (field::bytes(f, 0), field::num(f, 1), field::num(f, 2));
-    let found = usize::try_from(at)
-        .ok()
-        .and_then(|i| text.get(i..))
-        .filter(|rest| !rest.is_empty());
+    let found = usize::try_from(at).ok().and_then(|i| hex::line_at(text, i));
     match found {
-        Some(rest) => {
-            let length = rest.iter().position(|&c| c == b'\n').unwrap_or(rest.len());
-            let stop = at + length as u64;
+        Some((stop, next)) => {
             let number = (line + 1).min(u64::from(u32::MAX));
-            reply(
-                0,
-                vec![at.into(), stop.into(), (stop + 1).into(), number.into()],
-            )
+            reply(0, vec![at.into(), stop.into(), next.into(), number.into()])
         }
-        None => reply(1, vec![at.into(), at.into(), at.into(), line.into()]),
+        None => {
+            let end = text.len();
+            reply(1, vec![end.into(), end.into(), at.into(), line.into()])
+        }
     }
 }
 
@@ -583,6 +601,48 @@ pub static CALLS: &[Call] = &[
             let (number, steps) = streams::read_back(&device_at(f), &mut out);
             written(number, steps, out)
         },
+    },
+    Call {
+        name: "print.refusal",
+        kinds: &[Num(8), Num(32), Bytes],
+        classes: &[0, 1],
+        own: |f| {
+            let text = print::refusal(n8(f, 0).into(), field::num(f, 1));
+            put_text(&text, field::bytes(f, 2))
+        },
+    },
+    Call {
+        name: "print.sum",
+        kinds: &[Num(16), Bytes],
+        classes: &[0, 1],
+        own: |f| put_text(&print::sum(n16(f, 0)), field::bytes(f, 1)),
+    },
+    Call {
+        name: "print.verdict",
+        kinds: &[Num(8), Num(16), Num(32), Bytes],
+        classes: &[0, 1],
+        own: |f| {
+            let text = print::verdict(n8(f, 0).into(), n16(f, 1), field::num(f, 2));
+            put_text(&text, field::bytes(f, 3))
+        },
+    },
+    Call {
+        name: "print.text",
+        kinds: &[Bytes, Bytes],
+        classes: &[0, 1],
+        own: |f| put_text(field::bytes(f, 0), field::bytes(f, 1)),
+    },
+    Call {
+        name: "board.open_record",
+        kinds: &[Bytes, Bytes],
+        classes: &[0, 14, 15, 16],
+        own: open_record,
+    },
+    Call {
+        name: "board.open_board",
+        kinds: &[Bytes, Bytes, Num(16)],
+        classes: &[0, 14, 15, 16],
+        own: open_board,
     },
     Call {
         name: "bench.checksum",

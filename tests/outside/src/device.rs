@@ -20,6 +20,15 @@ pub struct Device {
 }
 
 impl Device {
+    /// What a call answers where it has no record.
+    pub const NONE: Device = Device {
+        id: 0,
+        words: 0,
+        row: 0,
+        mask1: 0,
+        mask2: 0,
+    };
+
     /// P, as a length.
     pub fn p(&self) -> usize {
         usize::from(self.words)

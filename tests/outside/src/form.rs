@@ -1,12 +1,46 @@
-//! Requests that are malformed, or only just well formed: the form itself, asked as raw lines.
+//! Requests that are malformed, or only just well formed, and comments: the form itself, asked as raw lines.
 
 use crate::ask::Peer;
 use crate::tally::{cut, Tally};
 
 const TINY: &str = "10752 16 8 16127 16371";
 
-/// Sound lines with their answers: small digits, and the largest sizes.
+/// Comments: each is its own answer.
+fn comments() -> Vec<Vec<u8>> {
+    let mut lines: Vec<Vec<u8>> = [
+        "#",
+        "##",
+        "# ",
+        "# two words",
+        "#words.double 1",
+        "# words.double 65536",
+        "#\ttab\rand CR\r",
+    ]
+    .map(|l| l.as_bytes().to_vec())
+    .to_vec();
+    lines.push(b"#\0\x7F\x80\xFF".to_vec());
+    // As long as a line may be with its LF.
+    lines.push([b"#".to_vec(), vec![b'x'; 1_048_576 - 2]].concat());
+    lines
+}
+
+/// Sound lines with their answers: comments, small digits, and the largest sizes. A comment stands first, some stand one after another,
+/// and some between requests.
 fn sound() -> Vec<(Vec<u8>, Vec<u8>)> {
+    let mut lines = Vec::new();
+    for comment in comments() {
+        lines.push((comment.clone(), comment));
+    }
+    for (i, request) in requests().into_iter().enumerate() {
+        lines.push(request);
+        let comment = format!("# after request {i}").into_bytes();
+        lines.push((comment.clone(), comment));
+    }
+    lines
+}
+
+/// Sound requests with their answers.
+fn requests() -> Vec<(Vec<u8>, Vec<u8>)> {
     let pair = |a: &str, b: &str| (a.as_bytes().to_vec(), b.as_bytes().to_vec());
     let mut lines = vec![
         pair("words.double 32775", "words.double 65550"),
@@ -104,6 +138,18 @@ fn malformed() -> Vec<Vec<u8>> {
         "quit",
         "bench.dump - -",
         "bench.dump - - - -",
+        "print.refusal 256 0 -",
+        "print.refusal 0 4294967296 -",
+        "print.sum 65536 -",
+        "print.verdict 40 65536 0 -",
+        "print.text -",
+        "board.open_record -",
+        "board.open_board - -",
+        "board.open_board - - 65536",
+        " # no comment",
+        "words.double 1 # no comment",
+        "words.double 1 #",
+        "words.double #",
         "words.double \u{663}",
     ]
     .map(String::from)
@@ -130,6 +176,8 @@ fn malformed() -> Vec<Vec<u8>> {
         "bench.verify {} {} {} {last}",
         parts[0], parts[1], parts[2]
     ));
+    // A comment of one byte more than the longest line.
+    lines.push(format!("#{}", "x".repeat(1_048_576 - 1)));
     let mut raw: Vec<Vec<u8>> = lines.into_iter().map(String::into_bytes).collect();
     raw.push(b"words.double 1\0".to_vec());
     raw.push(b"words.double \xFF".to_vec());
@@ -137,14 +185,56 @@ fn malformed() -> Vec<Vec<u8>> {
     raw
 }
 
-/// The message of a malformed line 2, at the beginning of a line of its own.
-fn told(messages: &[u8]) -> bool {
-    messages
-        .split(|&c| c == b'\n')
-        .any(|m| m.starts_with(b"answer: line 2: "))
+/// An input that ends at a malformed line, what is answered before it, and that line's number.
+struct Ended {
+    input: Vec<u8>,
+    output: Vec<u8>,
+    line: u32,
 }
 
-/// Each malformed line stands between two sound ones: the first is answered, and nothing after it.
+/// Each malformed line between two sound ones; inputs that end inside a line; comments before such lines, which are counted.
+fn ended() -> Vec<Ended> {
+    let sound = b"words.double 1\n".as_slice();
+    let second = |input: Vec<u8>| Ended {
+        input,
+        output: b"words.double 2\n".to_vec(),
+        line: 2,
+    };
+    let mut inputs: Vec<Ended> = malformed()
+        .into_iter()
+        .map(|bad| second([sound, &bad, b"\nwords.double 2\n"].concat()))
+        .collect();
+    for end in ["words.double 2", "words.doub", "#", "# a comment"] {
+        inputs.push(second([sound, end.as_bytes()].concat()));
+    }
+    let counted = |input: &[u8], output: &[u8], line: u32| Ended {
+        input: input.to_vec(),
+        output: output.to_vec(),
+        line,
+    };
+    inputs.extend([
+        counted(b"\nwords.double 1\n", b"", 1),
+        counted(b"# one\n\nwords.double 1\n", b"# one\n", 2),
+        counted(b"#\n#\nwords.double\n#\n", b"#\n#\n", 3),
+        counted(
+            b"# one\nwords.double 1\n# three\nwords.double 2\n#\nwords.double x\n#\n",
+            b"# one\nwords.double 2\n# three\nwords.double 4\n#\n",
+            6,
+        ),
+        counted(b"# one\n# two", b"# one\n", 2),
+    ]);
+    inputs
+}
+
+/// The message of a malformed line, at the beginning of a line of its own.
+fn told(messages: &[u8], line: u32) -> bool {
+    let message = format!("answer: line {line}: ");
+    messages
+        .split(|&c| c == b'\n')
+        .any(|m| m.starts_with(message.as_bytes()))
+}
+
+/// Sound lines are all answered, a malformed one is the last that is looked at.
 pub fn check(peer: &Peer, tally: &mut Tally) {
     let mut input = Vec::new();
     let mut expected = Vec::new();
@@ -169,21 +259,16 @@ pub fn check(peer: &Peer, tally: &mut Tally) {
             )
         }),
     }
-    let mut inputs: Vec<Vec<u8>> = malformed()
-        .into_iter()
-        .map(|bad| [b"words.double 1\n".as_slice(), &bad, b"\nwords.double 2\n"].concat())
-        .collect();
-    inputs.push(b"words.double 1\nwords.double 2".to_vec());
-    inputs.push(b"words.double 1\nwords.doub".to_vec());
-    for input in inputs {
-        match peer.talk(&input) {
+    for e in ended() {
+        match peer.talk(&e.input) {
             Err(why) => tally.check(false, || why),
             Ok(talk) => {
-                let good = talk.output == b"words.double 2\n" && told(&talk.messages);
+                let good = talk.output == e.output && told(&talk.messages, e.line);
                 tally.check(good, || {
                     format!(
-                        "a malformed request\n    input {}\n    got {}\n    told {}",
-                        cut(&input, 0),
+                        "a malformed line {}\n    input {}\n    got {}\n    told {}",
+                        e.line,
+                        cut(&e.input, 0),
                         cut(&talk.output, 0),
                         cut(&talk.messages, 0)
                     )

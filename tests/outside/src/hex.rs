@@ -8,6 +8,15 @@ pub const TEXT_MAX: usize = 131_072;
 /// The longest text that the programs take.
 pub const PROGRAM_TEXT_MAX: usize = 65_536;
 
+/// The line that begins at a place of the text: where it stops, the CR of its end apart, and where the next one begins.
+/// Nothing at the text's end.
+pub fn line_at(text: &[u8], at: usize) -> Option<(usize, usize)> {
+    let rest = text.get(at..).filter(|rest| !rest.is_empty())?;
+    let length = rest.iter().position(|&c| c == b'\n').unwrap_or(rest.len());
+    let carriage = usize::from(rest[..length].ends_with(b"\r"));
+    Some((at + length - carriage, at + length + 1))
+}
+
 struct Record {
     address: u16,
     kind: u8,
@@ -112,11 +121,13 @@ pub fn image(d: &Device, text: &[u8], most: usize) -> Result<Vec<u16>, (u32, usi
         upper: 0,
         ended: false,
     };
-    for (i, line) in text.split(|&c| c == b'\n').enumerate() {
-        let line = line.strip_suffix(b"\r").unwrap_or(line);
+    let (mut at, mut line) = (0, 0);
+    while let Some((stop, next)) = line_at(text, at) {
+        line += 1;
         reading
-            .line(d.p(), line)
-            .map_err(|number| (number, i + 1))?;
+            .line(d.p(), &text[at..stop])
+            .map_err(|number| (number, line))?;
+        at = next;
     }
     if reading.ended {
         Ok(reading.image)

@@ -2,6 +2,7 @@
 
 mod ask;
 mod bench;
+mod board;
 mod calls;
 mod cuts;
 mod device;
@@ -11,6 +12,7 @@ mod gen;
 mod hex;
 mod judge;
 mod model;
+mod print;
 mod rng;
 mod sheet;
 mod streams;

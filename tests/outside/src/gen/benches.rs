@@ -1,11 +1,11 @@
-//! Inputs for what the programs print.
+//! Inputs for what the programs print, and for the boards that they open.
 
 use super::boards::{
     also, any_device, bad_first_line, bad_sheet, bad_table, image_for, reading_for, table_with,
     table_without,
 };
 use super::plans::{bad_step, put_in, sound_stream, want_a_bit};
-use super::{hexes, lent, room};
+use super::{hexes, lent, number, room};
 use crate::bench as own;
 use crate::device::{Device, CP};
 use crate::field::Field;
@@ -52,6 +52,23 @@ pub fn bench(name: &str, aim: u32, rng: &mut Rng) -> Vec<Field> {
     let length = room(printed.text.len(), short, rng);
     fields.extend(third.map(Field::from));
     fields.push(lent(length, rng).into());
+    fields
+}
+
+/// Table and sheet to be opened, and what the buffer holds before.
+pub fn board(name: &str, aim: u32, rng: &mut Rng) -> Vec<Field> {
+    let mut d = any_device(rng);
+    if rng.chance(30) {
+        // A first line that is malformed reads as this ID.
+        d.id = 0;
+    }
+    let reading = reading_for(&d, rng.chance(30), rng);
+    let alone = name == "open_record";
+    let (table, board) = first_files(&d, &sheet::text(&d, &reading), aim, alone, rng);
+    let mut fields: Vec<Field> = vec![table.into(), board.into()];
+    if !alone {
+        fields.push(number(16, rng).into());
+    }
     fields
 }
 

@@ -196,7 +196,8 @@ fn bad_lines(d: &Device, number: u32, rng: &mut Rng) -> Vec<Line> {
         }
         6 => {
             let mut address = rng.u16();
-            let mut data = bytes(7, rng);
+            let most = rng.pick(&[7, 7, 7, 254]);
+            let mut data = bytes(most, rng);
             if rng.chance(50) {
                 address |= 1;
             } else if data.len() % 2 == 0 {
@@ -274,9 +275,14 @@ fn pad(text: Vec<u8>, length: usize, rng: &mut Rng) -> Vec<u8> {
 /// A text that the reader should answer with the number; `most` is the longest it may have.
 pub fn text(d: &Device, image: &[u16], aim: u32, most: usize, rng: &mut Rng) -> Vec<u8> {
     let mut lines = image_lines(d, image, rng);
-    if (2..=9).contains(&aim) {
+    // A text that is too long may have a bad line as well.
+    let fault = match aim {
+        1 if rng.chance(30) => rng.between(2, 9) as u32,
+        _ => aim,
+    };
+    if (2..=9).contains(&fault) {
         let at = rng.below(lines.len() + 1);
-        let bad = bad_lines(d, aim, rng);
+        let bad = bad_lines(d, fault, rng);
         lines.splice(at..at, bad);
         if rng.chance(30) {
             // A second fault behind the first.
@@ -333,6 +339,7 @@ pub fn ihex(name: &str, aim: u32, rng: &mut Rng) -> Vec<Field> {
     let mut fields = record(&d, aim, rng);
     if name == "read_hex" {
         let text_aim = match aim {
+            12 | 13 if rng.chance(8) => 1,
             12 | 13 => rng.pick(&[0, 0, 2, 10]),
             _ => aim,
         };

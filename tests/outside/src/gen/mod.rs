@@ -62,6 +62,8 @@ fn aimed(call: usize, aim: u32, rng: &mut Rng) -> Vec<Field> {
         "ihex" => hexes::ihex(rest, aim, rng),
         "target" => plans::target(rest, aim, rng),
         "plan" => plans::plan(rest, aim, rng),
+        "print" => texts::print(rest, aim == 1, rng),
+        "board" => benches::board(rest, aim, rng),
         "lent" if rest == "first_number" => texts::first_number(aim == 1, rng),
         "lent" => plans::target("step", aim, rng),
         _ => benches::bench(rest, aim, rng),

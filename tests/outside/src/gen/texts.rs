@@ -1,7 +1,9 @@
-//! Inputs for the calls on words, digits, decimals and addresses. Here 0 aims at something found, 1 at nothing.
+//! Inputs for the calls on words, digits, decimals, addresses, lines and printed lines. Here 0 aims at something found or done, 1 at
+//! nothing, or at no room.
 
-use super::{lent, number};
+use super::{lent, number, room};
 use crate::field::Field;
+use crate::print as own;
 use crate::rng::Rng;
 
 const CAPITALS: &[u8] = b"0123456789ABCDEF";
@@ -198,25 +200,94 @@ fn is_words(yes: bool, rng: &mut Rng) -> Vec<Field> {
     vec![list.into(), n.into()]
 }
 
-/// What texts of short lines are made of.
-const SHORT_LINES: &[u8] = b"\n\n\r:0F\x0B\x09";
+/// What short lines are made of, their ends apart: a CR among it, since only one just before the end belongs to that.
+const SHORT_LINES: &[u8] = b":0F\x0B\x09\r";
+/// What may stand at a line's end: also two CRs, and a CR where no LF follows.
+const ENDS: &[&[u8]] = &[b"\n", b"\n", b"\r\n", b"\r\n", b"\r\r\n"];
+
+/// A text of so many short lines, and where each of them begins.
+fn short_lines(count: usize, rng: &mut Rng) -> (Vec<u8>, Vec<usize>) {
+    let mut text = Vec::new();
+    let mut starts = Vec::new();
+    for i in 0..count {
+        starts.push(text.len());
+        for _ in 0..rng.pick(&[0, 0, 1, 2, 5, 9, 17]) {
+            text.push(rng.pick(SHORT_LINES));
+        }
+        let end = if i + 1 < count || rng.chance(60) {
+            rng.pick(ENDS)
+        } else {
+            // The text's end is the line's end as well.
+            rng.pick(&[b"\r".as_slice(), b"\r\r", b"", b":"])
+        };
+        text.extend(end);
+    }
+    (text, starts)
+}
 
 /// A text of short lines, or none.
 pub fn first_number(nothing: bool, rng: &mut Rng) -> Vec<Field> {
-    let length = if nothing { 0 } else { rng.between(1, 60) };
-    let text: Vec<u8> = (0..length).map(|_| rng.pick(SHORT_LINES)).collect();
-    vec![text.into()]
+    let lines = if nothing { 0 } else { rng.between(1, 8) };
+    vec![short_lines(lines, rng).0.into()]
 }
 
-/// A text of short lines, a place in it or past it, and the number of the line before.
+/// A text of short lines, a place in it (mostly where a line begins) or past it, and the number of the line before.
 pub fn next_line(nothing: bool, rng: &mut Rng) -> Vec<Field> {
-    let length = rng.below(60) + usize::from(!nothing);
-    let text: Vec<u8> = (0..length).map(|_| rng.pick(SHORT_LINES)).collect();
+    let lines = rng.below(8) + usize::from(!nothing);
+    let (text, starts) = short_lines(lines, rng);
     let at = match rng.below(3) {
-        _ if !nothing => rng.below(text.len()) as u64,
+        0 | 1 if !nothing => rng.pick(&starts) as u64,
+        _ if !nothing => rng.below(text.len().max(1)) as u64,
         0 => text.len() as u64,
         1 => u64::MAX - rng.below(3) as u64,
         _ => text.len() as u64 + rng.below(9) as u64,
     };
     vec![text.into(), at.into(), number(32, rng).into()]
+}
+
+/// A number of so many bits, often one where a digit more begins.
+fn count(bits: u32, rng: &mut Rng) -> u64 {
+    if rng.chance(50) {
+        return number(bits, rng);
+    }
+    let most = (1u64 << bits) - 1;
+    let round = 10u64.pow(rng.below(10) as u32);
+    (round - rng.below(2) as u64).min(most)
+}
+
+/// What a program's lines are made of, and a buffer with room for the line, or too short where that is aimed at.
+pub fn print(name: &str, short: bool, rng: &mut Rng) -> Vec<Field> {
+    let (mut fields, text): (Vec<Field>, Vec<u8>) = match name {
+        "refusal" => {
+            let (number, line) = (count(8, rng), count(32, rng));
+            let text = own::refusal(number as u32, line);
+            (vec![number.into(), line.into()], text)
+        }
+        "sum" => {
+            let word = number(16, rng);
+            (vec![word.into()], own::sum(word as u16))
+        }
+        "verdict" => {
+            let number = match rng.below(4) {
+                0 | 1 => 40,
+                2 => rng.pick(&[0, 41]),
+                _ => count(8, rng),
+            };
+            let (address, count) = (super::number(16, rng), count(32, rng));
+            let text = own::verdict(number as u32, address as u16, count);
+            (vec![number.into(), address.into(), count.into()], text)
+        }
+        _ => {
+            let length = if rng.chance(95) {
+                rng.between(1, 60)
+            } else {
+                rng.between(1, 3_000)
+            };
+            let text = lent(length, rng);
+            (vec![text.clone().into()], text)
+        }
+    };
+    let length = room(text.len(), short, rng);
+    fields.push(lent(length, rng).into());
+    fields
 }

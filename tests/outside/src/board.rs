@@ -1,0 +1,47 @@
+//! A board's table and sheet, opened: the record of the sheet's first line, and the reading.
+
+use crate::device::{find, table, Device};
+use crate::sheet;
+
+/// As many words as the largest reading has.
+pub const READING_MAX: usize = 8_201;
+
+/// Number and line.
+pub type Refusal = (u32, usize);
+
+/// The device of a sheet's first line: 15, 14 for that line, 16.
+pub fn record(text: &[u8], sheet: &[u8]) -> Result<Device, Refusal> {
+    // A malformed table is told before the sheet is looked at, whatever ID would be asked for.
+    if table(text).is_none() {
+        return Err((15, 0));
+    }
+    let id = sheet::first_line(sheet).ok_or((14, 0))?;
+    find(text, id)
+        .map(|l| l.device)
+        .map_err(|number| (number, 0))
+}
+
+/// Device and reading: the above, then 14 for the rest of the sheet.
+pub fn board(text: &[u8], sheet: &[u8]) -> Result<(Device, Vec<u16>), Refusal> {
+    let d = record(text, sheet)?;
+    let reading = sheet::reading(&d, sheet).ok_or((14, 0))?;
+    Ok((d, reading))
+}
+
+/// The record that the calls answer beside any number: the one that is found for the first line's ID, which reads as 0
+/// where that line is malformed; five zeros where none is found.
+pub fn answered(text: &[u8], sheet: &[u8]) -> Device {
+    let id = sheet::first_line(sheet).unwrap_or(0);
+    find(text, id).map_or(Device::NONE, |l| l.device)
+}
+
+/// Opens a board into a buffer of the largest reading: the number; the buffer changes only where that is 0.
+pub fn open(text: &[u8], sheet: &[u8], buffer: &mut [u16]) -> u32 {
+    match board(text, sheet) {
+        Err((number, _)) => number,
+        Ok((_, reading)) => {
+            buffer[..reading.len()].copy_from_slice(&reading);
+            0
+        }
+    }
+}
