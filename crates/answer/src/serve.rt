@@ -1,7 +1,7 @@
 // Requests are read and answered one after another, to the end of the input or the first that is malformed.
-use crate::name::UNKNOWN;
-use crate::put;
 use crate::request;
+use ask::name::UNKNOWN;
+use ask::put;
 use libc::STDERR_FILENO;
 use libc::STDIN_FILENO;
 use libc::STDOUT_FILENO;
