@@ -2,8 +2,8 @@
 use native.Mathlib.Omega.{arith}
 use lib.ListN.{length-take}
 use borrow.Author.Needs.{needs}
-use Rattle.answer.proofs.serve.tell.Statement.{statement}
-use Rattle.answer.proofs.serve.tell.Tie as tie
+use Rattle.ask_io.proofs.tell.Statement.{statement}
+use Rattle.ask_io.proofs.tell.Tie as tie
 
 slice-aggregate-complain : tie.Need-slice-aggregate-complain
 slice-aggregate-complain c = search needs

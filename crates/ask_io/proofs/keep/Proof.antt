@@ -3,8 +3,8 @@ use Prim.Native.Nat.{_-_}
 use mathlib.Core.Path.{_≡_}
 use lib.ListN.{length}
 use borrow.Author.Needs.{needs}
-use Rattle.answer.proofs.serve.keep.Statement.{statement}
-use Rattle.answer.proofs.serve.keep.Tie as tie
+use Rattle.ask_io.proofs.keep.Statement.{statement}
+use Rattle.ask_io.proofs.keep.Tie as tie
 
 abbrev Inv-loop : tie.InvT-loop
 Inv-loop text₀ from have n₀ i₀ text n i = length text ≡ length text₀
