@@ -42,7 +42,8 @@ fn answer_to(
         4 => ask_hex::answer(name, line, at, a, w, out),
         5..=6 => ask_target::answer(name, line, at, a, w, v, out),
         7 => ask_plan::answer(name, line, at, a, w, v, out),
-        8 => ask_bench::answer(name, line, at, a, out),
+        8..=9 => ask_board::answer(name, line, at, a, out),
+        10 => ask_bench::answer(name, line, at, a, out),
         _ => UNKNOWN,
     }
 }
@@ -51,7 +52,7 @@ fn answer_to(
 fn of_crate(name: &[u8]) -> usize {
     let dot = name::before(name, b'.');
     name::place(
-        b"words device judge sheet ihex target lent plan bench",
+        b"words device judge sheet ihex target lent plan print board bench",
         &name[..dot],
     )
 }

@@ -40,9 +40,9 @@ fn ask_two(which: usize, line: &[u8], at: usize, a: &mut [u8], out: &mut [u8]) -
 
 fn print_two(which: usize, table: &[u8], sheet: &[u8], text: &mut [u8]) -> usize {
     match which {
-        0 => bench::checksum(table, sheet, text),
-        1 => bench::readback(table, sheet, text),
-        _ => bench::dump(table, sheet, text),
+        0 => reports::checksum(table, sheet, text),
+        1 => listings::readback(table, sheet, text),
+        _ => reports::dump(table, sheet, text),
     }
 }
 
@@ -70,9 +70,9 @@ fn ask_three(which: usize, line: &[u8], at: usize, a: &mut [u8], out: &mut [u8])
 
 fn print_three(which: usize, table: &[u8], sheet: &[u8], third: &[u8], text: &mut [u8]) -> usize {
     match which {
-        3 => bench::verify(table, sheet, third, text),
-        4 => bench::update(table, sheet, third, text),
-        5 => bench::fresh(table, sheet, third, text),
-        _ => bench::trial(table, sheet, third, text),
+        3 => reports::verify(table, sheet, third, text),
+        4 => listings::update(table, sheet, third, text),
+        5 => listings::fresh(table, sheet, third, text),
+        _ => trials::trial(table, sheet, third, text),
     }
 }

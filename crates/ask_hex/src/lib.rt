@@ -1,13 +1,12 @@
-// Requests on HEX text.
+// Requests on HEX text and its lines.
 use ask::fields;
 use ask::fields::NOWHERE;
 use ask::name;
 use ask::name::UNKNOWN;
 use ask::put;
-use ihex::lines;
-use ihex::lines::NextLine;
+use lines::NextLine;
 
-// The end of the answer to a request of the crate ihex.
+// The end of the answer to a request on HEX text.
 pub fn answer(
     name: &[u8],
     line: &[u8],
@@ -38,7 +37,7 @@ fn read_hex(line: &[u8], at: usize, a: &mut [u8], w: &mut [u16], out: &mut [u8])
     let n = text.count;
     let m = image.count;
     let part = &mut w[..m];
-    let read = ihex::read_hex(d.device, &a[..n], part);
+    let read = hexread::read_hex(d.device, &a[..n], part);
     let next = put::two(out, at, read.number as u64, read.line as u64);
     put::words(out, next, part)
 }
@@ -53,7 +52,7 @@ fn write_hex(line: &[u8], at: usize, a: &mut [u8], w: &mut [u16], out: &mut [u8]
     let n = image.count;
     let m = text.count;
     let part = &mut a[..m];
-    let written = ihex::write_hex(d.device, &w[..n], part);
+    let written = hexwrite::write_hex(d.device, &w[..n], part);
     let next = put::two(out, at, written.number as u64, written.length as u64);
     put::bytes(out, next, part)
 }

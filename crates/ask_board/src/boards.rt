@@ -1,0 +1,37 @@
+// Requests on a table and a sheet, opened.
+use ask::fields;
+use ask::fields::NOWHERE;
+use ask::put;
+use ask::room;
+
+pub(crate) fn open_record(line: &[u8], at: usize, a: &mut [u8], out: &mut [u8]) -> usize {
+    let mut b = room::for_bytes();
+    let table = fields::bytes(line, at, a);
+    let sheet = fields::bytes(line, table.at, &mut b);
+    if sheet.at != line.len() {
+        return NOWHERE;
+    }
+    let n = table.count;
+    let m = sheet.count;
+    let opened = board::open_record(&a[..n], &b[..m]);
+    let device = opened.device;
+    put::record(out, at, opened.number, device)
+}
+
+// The reading's array is filled with one word before.
+pub(crate) fn open_board(line: &[u8], at: usize, a: &mut [u8], out: &mut [u8]) -> usize {
+    let mut b = room::for_bytes();
+    let table = fields::bytes(line, at, a);
+    let sheet = fields::bytes(line, table.at, &mut b);
+    let fill = fields::short(line, sheet.at);
+    if fill.at != line.len() {
+        return NOWHERE;
+    }
+    let n = table.count;
+    let m = sheet.count;
+    let mut reading = [fill.value; 8201];
+    let opened = board::open_board(&a[..n], &b[..m], &mut reading);
+    let device = opened.device;
+    let next = put::record(out, at, opened.number, device);
+    put::words(out, next, &reading)
+}
