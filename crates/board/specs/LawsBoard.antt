@@ -164,3 +164,11 @@ module _ (table sheet : List ℕ) (number : ℕ) (e : number ≡ boardNumber tab
 pub board-opened : (table sheet : List ℕ) (number : ℕ) → number ≡ boardNumber table sheet → number ≡ 0 → (d : Device) → d ≡ recordOf table sheet
     → (reading : List ℕ) → reading ≡ openedReading table sheet (replicate mostReading 0) → Board table sheet d reading
 board-opened table sheet number e z d is reading f = board-in table sheet number e z d is (replicate mostReading 0) (length-replicate {A = ℕ} mostReading 0) reading f
+
+-- another local buffer of the most words has room for a reading too
+module _ (table sheet : List ℕ) (d : Device) (reading : List ℕ) (b : Board table sheet d reading) (v : ℕ) where
+  pub other-room : d .words + 9 ≤ length (replicate mostReading v)
+  other-room = let few : d .words ≤ 8192 = b .most in rw (length-replicate {A = ℕ} mostReading v) (omega arith)
+
+  pub other-long : length (take (d .words + 9) (replicate mostReading v)) ≡ d .words + 9
+  other-long = length-take-le (d .words + 9) (replicate mostReading v) other-room
