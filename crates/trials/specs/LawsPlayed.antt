@@ -214,6 +214,11 @@ module _ (d : Device) where
 
 -- ---- the text of a run
 
+-- no more steps than were allowed
+pub run-few : (d : Device) (stream words cells : List ℕ) (allowance : ℕ) (a : Ran) (words′ cells′ : List ℕ) → Runs d stream allowance words cells a words′ cells′ → a .steps ≤ allowance
+unfolding answered
+run-few d stream words cells allowance a words′ cells′ g = rw (g .answers) (ran-few d stream allowance cells words)
+
 -- what the call of the run answered on the cells of a reading, with room for a word at each step
 module _ (d : Device) (reading : List ℕ) (ok : readingOk (d .words) reading ≡ true) (stream cells : List ℕ) (k : cells ≡ cellsOf reading)
     (a : Ran) (words′ cells′ : List ℕ) (g : Runs d stream mostSteps (replicate mostSteps 0) cells a words′ cells′) where
@@ -228,11 +233,6 @@ module _ (d : Device) (reading : List ℕ) (ok : readingOk (d .words) reading �
   steps-are : a .steps ≡ played d reading stream .done
   unfolding answered
   steps-are = ap (λ x. x .steps) (g .answers) ∙ ap (λ x. x .done) ran-is
-
-  pub run-few : a .steps ≤ 32768
-  run-few =
-      let same : a .steps ≡ ran d stream mostSteps cells (replicate mostSteps 0) .done = unfold answered in ap (λ x. x .steps) (g .answers) in
-      omega (arith, ran-few d stream mostSteps cells (replicate mostSteps 0))
 
   cells′-sound : soundCells d cells′ ≡ true
   cells′-sound = ap (soundCells d) (g .cells-left) ∙ ran-sound d stream mostSteps cells (replicate mostSteps 0) (cells-sound d reading ok cells k)

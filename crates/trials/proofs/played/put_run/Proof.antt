@@ -32,10 +32,10 @@ run-requires : tie.Need-run-requires
 run-requires c κs = search needs
 
 add-refusal : tie.Need-add-refusal
-add-refusal c = omega (arith, run-few (c .before .before .before .before .before .before .before .before .before .before .before .before .before .before .before .before .args .d) _ (c .before .before .before .before .before .before .before .before .before .before .before .before .before .before .before .before .pre .1) _ _ (cells-are (c .before .before .before .before .before .before .before .before .before .before .before .before .before .before .before .before .args .d) (c .before .before .before .before .before .before .before .before .before .before .before .before .before .before .before .before .pre .0) _ (c .before .before .before .before .before .before .before .before .before .before .before .before .before .before .before .before .pre .1) _ (c .before .before .before .before .before .before .before .before .before .before .before .copy .ensures)) _ _ _ (c .before .before .before .before .before .before .run .ensures))
+add-refusal c = omega (arith, run-few _ _ _ _ _ _ _ _ (c .before .before .before .before .before .before .run .ensures))
 
 cast-refusal : tie.Need-cast-refusal
-cast-refusal c = omega (arith, run-few (c .before .before .before .before .before .before .before .before .before .before .before .before .before .before .before .before .args .d) _ (c .before .before .before .before .before .before .before .before .before .before .before .before .before .before .before .before .pre .1) _ _ (cells-are (c .before .before .before .before .before .before .before .before .before .before .before .before .before .before .before .before .args .d) (c .before .before .before .before .before .before .before .before .before .before .before .before .before .before .before .before .pre .0) _ (c .before .before .before .before .before .before .before .before .before .before .before .before .before .before .before .before .pre .1) _ (c .before .before .before .before .before .before .before .before .before .before .before .copy .ensures)) _ _ _ (c .before .before .before .before .before .before .run .ensures))
+cast-refusal c = omega (arith, run-few _ _ _ _ _ _ _ _ (c .before .before .before .before .before .before .run .ensures))
 
 refusal-requires : tie.Need-refusal-requires
 refusal-requires c κs = search needs
