@@ -5,6 +5,6 @@ fn main() {
     let mut sheet = io::large_buffer();
     let s = files::read(files::open(2, b"board.txt"), &mut sheet);
     let mut out = [0u8; 114844];
-    let n = bench::dump(&table[..t], &sheet[..s], &mut out);
+    let n = reports::dump(&table[..t], &sheet[..s], &mut out);
     files::show(&out, n);
 }

@@ -7,6 +7,6 @@ fn main() {
     let mut stream = [0u8; 262145];
     let p = files::read(files::open(3, b"stream.txt"), &mut stream);
     let mut out = [0u8; 46135];
-    let n = bench::trial(&table[..t], &sheet[..s], &stream[..p], &mut out);
+    let n = trials::trial(&table[..t], &sheet[..s], &stream[..p], &mut out);
     files::show(&out, n);
 }

@@ -7,6 +7,6 @@ fn main() {
     let mut wanted = io::large_buffer();
     let w = files::read(files::open(3, b"wanted.txt"), &mut wanted);
     let mut out = [0u8; 64];
-    let n = bench::verify(&table[..t], &sheet[..s], &wanted[..w], &mut out);
+    let n = reports::verify(&table[..t], &sheet[..s], &wanted[..w], &mut out);
     files::show(&out, n);
 }

@@ -1,0 +1,4 @@
+-- What a board's table and sheet open to, and its laws in the modules whose names begin with Laws.
+pub mod Open
+pub mod LawsOpen
+pub mod LawsBoard

@@ -1,0 +1,173 @@
+-- Laws of the programs update and fresh, as one program that is told which of the two it is.
+use Prim.Native.Nat.{ℕ, _+_, _*_, _/_, _≤_, _<_}
+use native.Mathlib.Nat.{mul-le-mul-left}
+use native.Mathlib.Omega.{arith}
+use mathlib.Core.Path.{_≡_, refl, sym, ap, _∙_}
+use mathlib.Core.Bool.{Bool, true, false}
+use mathlib.Core.List.{List, _++_}
+use lib.Dec.{eqb, leb}
+use lib.ListN.{length, getD, take, length-append, length-replicate}
+use lib.Seq.{take-at, length-take-le}
+use borrow.Author.Tests.{eq-eqb, ne-eqb, le-leb, lt-leb}
+use Rattle.words.specs.Choice.{pick}
+use Rattle.words.specs.LawsChoice.{pick-true, pick-false}
+use Rattle.device.specs.declared.Device.{Device}
+use Rattle.device.specs.Record.{deviceOk}
+use Rattle.device.specs.LawsRecord.{Rules, rules, row, whole-rows}
+use Rattle.device.specs.LawsMemory.{image-long}
+use Rattle.ihex.specs.Reader.{Outcome, blankImage, refusedAt, readOf, readAnswer, HexRead}
+use Rattle.ihex.specs.declared.ReadHex.{ReadHex}
+use Rattle.ihex.specs.LawsImage.{read-image-ok}
+use Rattle.target.specs.declared.Order.{Order}
+use Rattle.target.specs.Stream.{bytesOf}
+use Rattle.plan.specs.Steps.{updateSteps, freshSteps}
+use Rattle.plan.specs.Answers.{updateNumber, freshNumber}
+use Rattle.plan.specs.LawsPlanBounds.{update-bound, fresh-bound}
+use Rattle.print.specs.Print.{refusedText}
+use Rattle.board.specs.Open.{recordOf, boardNumber, readingOf}
+use Rattle.listings.specs.Streams.{hexOf, planText, updateText, freshText}
+use Rattle.listings.specs.LawsStreams.{mostStream}
+use Rattle.board.specs.LawsBoard.{Board, board-told, board-text}
+
+-- ---- either program
+
+-- the refusal and the steps of either planner
+unfoldable pub planNumber : (fresh : Bool) → Device → (image reading : List ℕ) → ℕ
+planNumber fresh d image reading = pick fresh (freshNumber d image (getD reading (d .words + 6) 0)) (updateNumber d image reading)
+
+unfoldable pub planSteps : (fresh : Bool) → Device → (image reading : List ℕ) → List Order
+planSteps fresh d image reading = pick fresh (freshSteps d image) (updateSteps d image reading)
+
+-- the text for what the HEX file came to
+unfoldable givenText : (fresh : Bool) → Device → (reading : List ℕ) → Outcome → List ℕ
+givenText fresh d reading given =
+    pick (eqb (given .number) 0) (planText (planNumber fresh d (given .image) reading) (bytesOf (planSteps fresh d (given .image) reading)))
+    (refusedText (given .number) (given .line))
+
+unfoldable pub programText : (fresh : Bool) → (table sheet hex : List ℕ) → List ℕ
+programText fresh table sheet hex = pick fresh (freshText table sheet hex) (updateText table sheet hex)
+
+pub update-is : (table sheet hex : List ℕ) → programText false table sheet hex ≡ updateText table sheet hex
+unfolding programText pick
+update-is table sheet hex = refl
+
+pub fresh-is : (table sheet hex : List ℕ) → programText true table sheet hex ≡ freshText table sheet hex
+unfolding programText pick
+fresh-is table sheet hex = refl
+
+module _ (fresh : Bool) (d : Device) (image reading : List ℕ) where
+  pub plan-fresh : fresh ≡ true → planText (freshNumber d image (getD reading (d .words + 6) 0)) (bytesOf (freshSteps d image)) ≡ planText (planNumber fresh d image reading) (bytesOf (planSteps fresh d image reading))
+  unfolding planNumber planSteps pick
+  plan-fresh e = rw e
+
+  pub plan-update : fresh ≡ false → planText (updateNumber d image reading) (bytesOf (updateSteps d image reading)) ≡ planText (planNumber fresh d image reading) (bytesOf (planSteps fresh d image reading))
+  unfolding planNumber planSteps pick
+  plan-update e = rw e
+
+-- ---- what the HEX file came to
+
+module _ (fresh : Bool) (d : Device) (reading : List ℕ) (given : Outcome) where
+  given-refused : (given .number ≡ 0 → ⊥) → refusedText (given .number) (given .line) ≡ givenText fresh d reading given
+  unfolding givenText
+  given-refused n = sym (pick-false (eqb (given .number) 0) _ _ (ne-eqb (given .number) 0 n))
+
+  given-found : given .number ≡ 0 → planText (planNumber fresh d (given .image) reading) (bytesOf (planSteps fresh d (given .image) reading)) ≡ givenText fresh d reading given
+  unfolding givenText
+  given-found z = sym (pick-true (eqb (given .number) 0) _ _ (eq-eqb (given .number) 0 z))
+
+-- what a reader leaves does not depend on what the image held before
+read-any : (d : Device) (hex image : List ℕ) → deviceOk d ≡ true → length image ≡ d .words + 9 → readOf d hex image ≡ readOf d hex (blankImage (d .words))
+unfolding readOf pick
+read-any d hex image sound long =
+    let blank : length (blankImage (d .words)) ≡ d .words + 9 = unfold blankImage in length-replicate (d .words + 9) _ in
+    rw (sound, eq-eqb (length image) (d .words + 9) long, eq-eqb (length (blankImage (d .words))) (d .words + 9) blank)
+
+-- ---- the board, and then the HEX file
+
+module _ (fresh : Bool) (table sheet hex : List ℕ) where
+  -- the text for a board that is not refused
+  whole : List ℕ
+  whole = givenText fresh (recordOf table sheet) (readingOf table sheet) (hexOf table sheet hex)
+
+  program-board : programText fresh table sheet hex ≡ pick (eqb (boardNumber table sheet) 0) whole (refusedText (boardNumber table sheet) 0)
+  unfolding whole
+  program-board = by fresh
+    where
+      by : (f : Bool) → programText f table sheet hex
+          ≡ pick (eqb (boardNumber table sheet) 0) (givenText f (recordOf table sheet) (readingOf table sheet) (hexOf table sheet hex)) (refusedText (boardNumber table sheet) 0)
+      by true = unfold programText freshText givenText planNumber planSteps in pick-true true _ _ refl ∙ (unfold pick in refl)
+      by false = unfold programText updateText givenText planNumber planSteps in pick-false false _ _ refl ∙ (unfold pick in refl)
+
+  module _ (number : ℕ) (e : number ≡ boardNumber table sheet) where
+    pub program-refused : (number ≡ 0 → ⊥) → refusedText number 0 ≡ programText fresh table sheet hex
+    program-refused n = board-told table sheet number e (λ k. refusedText k 0) whole n ∙ sym program-board
+
+    module _ (z : number ≡ 0) where
+      program-whole : whole ≡ programText fresh table sheet hex
+      program-whole = board-text table sheet number e whole (refusedText (boardNumber table sheet) 0) z ∙ sym program-board
+
+      pub program-long : 65536 < length hex → refusedText 1 0 ≡ programText fresh table sheet hex
+      unfolding whole
+      program-long h =
+          let long : hexOf table sheet hex ≡ refusedAt (recordOf table sheet .words) 1 0 = unfold hexOf in pick-false (leb (length hex) 65536) _ _ (lt-leb (length hex) 65536 h) in
+          let told : refusedText 1 0 ≡ givenText fresh (recordOf table sheet) (readingOf table sheet) (refusedAt (recordOf table sheet .words) 1 0) = unfold givenText refusedAt pick in refl in
+          told ∙ (ap (givenText fresh (recordOf table sheet) (readingOf table sheet)) (sym long) ∙ program-whole)
+
+      module _ (d : Device) (reading : List ℕ) (b : Board table sheet d reading) (h : length hex ≤ 65536) (image : List ℕ) (long : length image ≡ d .words + 9)
+          (r : ReadHex) (image′ : List ℕ) (p : HexRead d hex image r image′) where
+        given : readOf d hex image ≡ hexOf table sheet hex
+        unfolding hexOf
+        given =
+            read-any d hex image (b .sound) long
+            ∙ (ap (λ x. readOf x hex (blankImage (x .words))) (b .record-is) ∙ sym (pick-true (leb (length hex) 65536) _ _ (le-leb (length hex) 65536 h)))
+
+        number-is : r .number ≡ readOf d hex image .number
+        unfolding readAnswer
+        number-is = ap (λ x. x .number) (p .answer)
+
+        line-is : r .line ≡ readOf d hex image .line
+        unfolding readAnswer
+        line-is = ap (λ x. x .line) (p .answer)
+
+        read-whole : givenText fresh d (take (d .words + 9) reading) (readOf d hex image) ≡ programText fresh table sheet hex
+        unfolding whole
+        read-whole =
+            ap (givenText fresh d (take (d .words + 9) reading)) given
+            ∙ (ap (λ l. givenText fresh d l (hexOf table sheet hex)) (b .front)
+            ∙ (ap (λ x. givenText fresh x (readingOf table sheet) (hexOf table sheet hex)) (b .record-is) ∙ program-whole))
+
+        pub program-hex : (r .number ≡ 0 → ⊥) → refusedText (r .number) (r .line) ≡ programText fresh table sheet hex
+        program-hex n = rw (number-is, line-is) (given-refused fresh d (take (d .words + 9) reading) (readOf d hex image) (λ z. n (number-is ∙ z)) ∙ read-whole)
+
+        module _ (y : r .number ≡ 0) (rest : List ℕ) where
+          count : length image′ ≡ d .words + 9
+          count = ap length (p .image-is) ∙ image-long (d .words) (readOf d hex image .image) (read-image-ok d hex image (sym number-is ∙ y))
+
+          pub program-within : d .words + 9 ≤ length (image′ ++ rest)
+          program-within = rw (length-append image′ rest) (omega (arith, count))
+
+          pub program-front : length (take (d .words + 9) (image′ ++ rest)) ≡ d .words + 9
+          program-front = length-take-le (d .words + 9) (image′ ++ rest) program-within
+
+          pub program-found : planText (planNumber fresh d (take (d .words + 9) (image′ ++ rest)) (take (d .words + 9) reading)) (bytesOf (planSteps fresh d (take (d .words + 9) (image′ ++ rest)) (take (d .words + 9) reading)))
+              ≡ programText fresh table sheet hex
+          program-found =
+              ap (λ l. planText (planNumber fresh d l (take (d .words + 9) reading)) (bytesOf (planSteps fresh d l (take (d .words + 9) reading)))) (take-at image′ rest (d .words + 9) count ∙ p .image-is)
+              ∙ (given-found fresh d (take (d .words + 9) reading) (readOf d hex image) (sym number-is ∙ y) ∙ read-whole)
+
+-- ---- each planner has room
+
+program-few : (d : Device) (sound : deviceOk d ≡ true) (n : ℕ) → n ≤ 2 * d .words + 2 * (d .words / d .row) + 22 → 3 * n ≤ mostStream
+program-few d sound n h =
+    let keeps : Rules d = rules d sound in
+    let rows : d .words / d .row * d .row ≡ d .words = whole-rows d keeps in
+    let least : 8 ≤ d .row = row (d .row) (keeps .row-is) .low in
+    let eight : d .words / d .row * 8 ≤ d .words / d .row * d .row = mul-le-mul-left (d .words / d .row) least in
+    let most : d .words ≤ 8192 = keeps .most in
+    omega arith
+
+pub fresh-few : (d : Device) → deviceOk d ≡ true → (image : List ℕ) → 3 * length (freshSteps d image) ≤ mostStream
+fresh-few d sound image = program-few d sound (length (freshSteps d image)) (fresh-bound d image sound)
+
+pub update-few : (d : Device) → deviceOk d ≡ true → (image reading : List ℕ) → 3 * length (updateSteps d image reading) ≤ mostStream
+update-few d sound image reading = program-few d sound (length (updateSteps d image reading)) (update-bound d image reading sound)

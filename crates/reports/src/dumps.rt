@@ -1,0 +1,31 @@
+// The program dump.
+use words::NOT_GIVEN;
+ghost use Prim.Native.Nat.{_≤_};
+ghost use Rattle.print.specs.Print.{Prints};
+ghost use Rattle.reports.specs.Dump.{dumpText};
+
+// The longest HEX text that is written: 14P + 156 bytes.
+const MOST_DUMP: usize = 114844;
+
+// Prints a board's sheet as HEX text as far as there is room, and answers the length of the whole text.
+pub fn dump(table: &[u8], sheet: &[u8], out: &mut [u8]) -> usize
+    ensures { λ r. ⌜ (Prints (dumpText (now (table .entry)) (now (sheet .entry))) (now (out .entry)) r (now (out .exit))) × (r ≤ 114844) ⌝ }
+{
+    let mut image = [0u16; board::MOST_READING];
+    let opened = board::open_board(table, sheet, &mut image);
+    if opened.number != 0 {
+        return print::refusal(out, opened.number, 0);
+    }
+    let device = opened.device;
+    // the reading is an image but for the three words that are never given
+    let first = (device.words as usize) + 4;
+    image[first] = NOT_GIVEN;
+    image[first + 1] = NOT_GIVEN;
+    image[first + 2] = NOT_GIVEN;
+    let count = (device.words as usize) + 9;
+    let mut hex = [0u8; MOST_DUMP];
+    let written = ihex::write_hex(device, &image[..count], &mut hex);
+    // an image under a sound record is not refused, and its text has room
+    let length = written.length;
+    print::text(out, &hex[..length])
+}

@@ -1,0 +1,67 @@
+// A stream played on the model of a board, with room for a word at each step.
+use crate::typed;
+use device::Device;
+use words::ERASED;
+ghost use mathlib.Core.Path.{_≡_};
+ghost use mathlib.Core.Bool.{true};
+ghost use Prim.Native.Nat.{_+_, _≤_};
+ghost use lib.ListN.{length, take};
+ghost use lib.Seq.{sets};
+ghost use Rattle.device.specs.Record.{deviceOk};
+ghost use Rattle.device.specs.Memory.{readingOk};
+ghost use Rattle.sheet.specs.Sheet.{sheetText};
+ghost use Rattle.target.specs.Step.{soundCells};
+ghost use Rattle.print.specs.Print.{Prints};
+ghost use Rattle.trials.specs.Trial.{played, playedText};
+
+// The most cells that a target has.
+const MOST_CELLS: usize = 8203;
+
+// The length of the longest sheet.
+const MOST_SHEET: usize = 46135;
+
+// The text of a run on the cells of a reading, whose calibration words are erased.
+pub(crate) fn put_run(d: Device, reading: &[u16], stream: &[u8], out: &mut [u8]) -> usize
+    requires { ⌜ (deviceOk d ≡ true) × (readingOk (d .words) (now reading) ≡ true) ⌝ }
+    ensures { λ r. ⌜ Prints (playedText d (played d (now (reading .entry)) (now (stream .entry)))) (now (out .entry)) r (now (out .exit)) ⌝ }
+{
+    let mut cells = [ERASED; MOST_CELLS];
+    copy(reading, &mut cells);
+    let count = (d.words as usize) + 11;
+    let mut words = [0u16; typed::MOST_STEPS];
+    let ran = target::run(
+        d,
+        &mut cells[..count],
+        stream,
+        typed::MOST_STEPS,
+        &mut words,
+    );
+    if ran.number != 0 {
+        return print::refusal(out, ran.number, (ran.steps + 1) as u32);
+    }
+    put_sheet(d, &cells[..count], out)
+}
+
+// Copies words to the start of others.
+fn copy(from: &[u16], to: &mut [u16])
+    requires { ⌜ length (now from) ≤ length (now to) ⌝ }
+    ensures { λ _. ⌜ now (to .exit) ≡ sets (now (to .entry)) 0 (now (from .entry)) ⌝ }
+{
+    let mut i = 0;
+    while i < from.len() {
+        to[i] = from[i];
+        i += 1;
+    }
+}
+
+// The sheet of a target's cells.
+fn put_sheet(d: Device, cells: &[u16], out: &mut [u8]) -> usize
+    requires { ⌜ (deviceOk d ≡ true) × (soundCells d (now cells) ≡ true) ⌝ }
+    ensures { λ r. ⌜ Prints (sheetText d (take (d .words + 9) (now (cells .entry)))) (now (out .entry)) r (now (out .exit)) ⌝ }
+{
+    let count = (d.words as usize) + 9;
+    let mut sheet = [0u8; MOST_SHEET];
+    let written = sheet::write_sheet(d, &cells[..count], &mut sheet);
+    let length = written.length;
+    print::text(out, &sheet[..length])
+}
