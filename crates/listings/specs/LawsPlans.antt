@@ -15,9 +15,9 @@ use Rattle.device.specs.declared.Device.{Device}
 use Rattle.device.specs.Record.{deviceOk}
 use Rattle.device.specs.LawsRecord.{Rules, rules, row, whole-rows}
 use Rattle.device.specs.LawsMemory.{image-long}
-use Rattle.ihex.specs.Reader.{Outcome, blankImage, refusedAt, readOf, readAnswer, HexRead}
-use Rattle.ihex.specs.declared.ReadHex.{ReadHex}
-use Rattle.ihex.specs.LawsImage.{read-image-ok}
+use Rattle.hexread.specs.Reader.{Outcome, blankImage, refusedAt, readOf, readAnswer, HexRead}
+use Rattle.hexread.specs.declared.ReadHex.{ReadHex}
+use Rattle.hexread.specs.LawsImage.{read-image-ok}
 use Rattle.target.specs.declared.Order.{Order}
 use Rattle.target.specs.Stream.{bytesOf}
 use Rattle.plan.specs.Steps.{updateSteps, freshSteps}

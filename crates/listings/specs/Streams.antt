@@ -7,7 +7,7 @@ use Rattle.words.specs.Choice.{pick}
 use Rattle.words.specs.Text.{tab, lf}
 use Rattle.words.specs.Hex.{byteText}
 use Rattle.target.specs.Stream.{bytesOf}
-use Rattle.ihex.specs.Reader.{Outcome, blankImage, refusedAt, readOf}
+use Rattle.hexread.specs.Reader.{Outcome, blankImage, refusedAt, readOf}
 use Rattle.plan.specs.Steps.{updateSteps, freshSteps, readBackSteps}
 use Rattle.plan.specs.Answers.{updateNumber, freshNumber}
 use Rattle.print.specs.Print.{refusedText}

@@ -44,7 +44,7 @@ fn put_program(table: &[u8], sheet: &[u8], hex: &[u8], fresh: bool, out: &mut [u
     let device = opened.device;
     let count = (device.words as usize) + 9;
     let mut image = [NOT_GIVEN; board::MOST_READING];
-    let given = ihex::read_hex(device, hex, &mut image[..count]);
+    let given = hexread::read_hex(device, hex, &mut image[..count]);
     if given.number != 0 {
         return print::refusal(out, given.number, given.line);
     }

@@ -6,7 +6,7 @@ use lib.ListN.{getD}
 use Rattle.words.specs.Choice.{pick}
 use Rattle.words.specs.Word.{notGiven}
 use Rattle.words.specs.Lists.{build, inRange}
-use Rattle.ihex.specs.Writer.{hexText}
+use Rattle.hexwrite.specs.Writer.{hexText}
 use Rattle.print.specs.Print.{refusedText}
 use Rattle.board.specs.Open.{recordOf, boardNumber, readingOf}
 

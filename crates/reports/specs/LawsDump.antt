@@ -20,9 +20,9 @@ use Rattle.device.specs.Record.{deviceOk}
 use Rattle.device.specs.Memory.{entryOk, imageOk, readingOk}
 use Rattle.device.specs.LawsRecord.{rules}
 use Rattle.device.specs.LawsMemory.{entry-none, entry-low, entry-high, image-of}
-use Rattle.ihex.specs.declared.WrittenHex.{WrittenHex}
-use Rattle.ihex.specs.Writer.{hexText, writtenHex, writtenOut, WroteHex}
-use Rattle.ihex.specs.LawsWriteText.{text-length}
+use Rattle.hexwrite.specs.declared.WrittenHex.{WrittenHex}
+use Rattle.hexwrite.specs.Writer.{hexText, writtenHex, writtenOut, WroteHex}
+use Rattle.hexwrite.specs.LawsWriteText.{text-length}
 use Rattle.print.specs.Print.{refusedText}
 use Rattle.print.specs.LawsLines.{either-short}
 use Rattle.board.specs.Open.{recordOf, boardNumber, readingOf}

@@ -28,7 +28,7 @@ use Rattle.print.specs.LawsLines.{either-short, sum-short, verdict-short}
 use Rattle.board.specs.Open.{recordOf, boardNumber, readingOf}
 use Rattle.board.specs.LawsOpen.{sheet-bad, sheet-good, sheet-words}
 use Rattle.board.specs.LawsBoard.{Board, board-told, board-text}
-use Rattle.reports.specs.Programs.{checksumText, lineOf, verifyNumber, verifyText}
+use Rattle.reports.specs.Programs.{checksumText, verdictLine, verifyNumber, verifyText}
 
 -- ---- checksum
 
@@ -103,11 +103,11 @@ module _ (table sheet wanted : List ℕ) (number : ℕ) (e : number ≡ boardNum
             ∙ verified-judged d (wordsIn (d .words) wanted) (take (d .words + 9) reading) (b .sound) (read-sound d wanted good) (b .good))
 
         pub verify-found : verdictText (v .number) (v .address .0) (v .count) ≡ verifyText table sheet wanted
-        unfolding verifyText lineOf
+        unfolding verifyText verdictLine
         verify-found =
-            ap lineOf verdict-is
-            ∙ (ap (λ l. lineOf (verdictOf (d .words) (wordsIn (d .words) wanted) l)) (b .front)
-            ∙ (ap (λ x. lineOf (verdictOf (x .words) (wordsIn (x .words) wanted) (readingOf table sheet))) (b .record-is)
+            ap verdictLine verdict-is
+            ∙ (ap (λ l. verdictLine (verdictOf (d .words) (wordsIn (d .words) wanted) l)) (b .front)
+            ∙ (ap (λ x. verdictLine (verdictOf (x .words) (wordsIn (x .words) wanted) (readingOf table sheet))) (b .record-is)
             ∙ sym (pick-true _ _ _ (eq-eqb (verifyNumber table sheet wanted) 0 (judged-is ∙ pick-true _ _ _ good)))))
 
         -- the count fits a number that is printed
@@ -131,7 +131,7 @@ pub verify-short : (table sheet wanted : List ℕ) → length (verifyText table 
 unfolding verifyText
 verify-short table sheet wanted =
     either-short 64 (omega arith) (verifyNumber table sheet wanted) 0 _
-    (λ z. unfold lineOf in omega (arith, verdict-short (verdict .number) (verdict .address .0) (verdict .count)))
+    (λ z. unfold verdictLine in omega (arith, verdict-short (verdict .number) (verdict .address .0) (verdict .count)))
   where
     verdict : Verdict
     verdict = verdictOf (recordOf table sheet .words) (wordsIn (recordOf table sheet .words) wanted) (readingOf table sheet)

@@ -17,8 +17,8 @@ checksumText table sheet =
     (refusedText (boardNumber table sheet) 0)
 
 -- a verdict's line
-unfoldable pub lineOf : Verdict → List ℕ
-lineOf v = verdictText (v .number) (v .address .0) (v .count)
+unfoldable pub verdictLine : Verdict → List ℕ
+verdictLine v = verdictText (v .number) (v .address .0) (v .count)
 
 -- the board's sheet, and then the wanted one, under the same record
 unfoldable pub verifyNumber : (table sheet wanted : List ℕ) → ℕ
@@ -28,5 +28,5 @@ verifyNumber table sheet wanted =
 unfoldable pub verifyText : (table sheet wanted : List ℕ) → List ℕ
 verifyText table sheet wanted =
     pick (eqb (verifyNumber table sheet wanted) 0)
-    (lineOf (verdictOf (recordOf table sheet .words) (wordsIn (recordOf table sheet .words) wanted) (readingOf table sheet)))
+    (verdictLine (verdictOf (recordOf table sheet .words) (wordsIn (recordOf table sheet .words) wanted) (readingOf table sheet)))
     (refusedText (verifyNumber table sheet wanted) 0)

@@ -24,7 +24,7 @@ pub fn dump(table: &[u8], sheet: &[u8], out: &mut [u8]) -> usize
     image[first + 2] = NOT_GIVEN;
     let count = (device.words as usize) + 9;
     let mut hex = [0u8; MOST_DUMP];
-    let written = ihex::write_hex(device, &image[..count], &mut hex);
+    let written = hexwrite::write_hex(device, &image[..count], &mut hex);
     // an image under a sound record is not refused, and its text has room
     let length = written.length;
     print::text(out, &hex[..length])
