@@ -5,7 +5,7 @@ use native.Mathlib.Numerals.{add-one}
 use native.Mathlib.Omega.{arith}
 use mathlib.Core.Path.{_≡_, refl, sym, ap, _∙_}
 use mathlib.Core.Bool.{Bool, true, false}
-use mathlib.Core.List.{List, [], _∷_, _++_, append-assoc}
+use mathlib.Core.List.{List, [], _∷_, _++_}
 use lib.Dec.{ltb}
 use lib.ListN.{length, getD, set, drop, length-append, drop-of-length-le}
 use lib.Seq.{sets, drop-cons}
@@ -25,9 +25,6 @@ pub record Wrote (at : ℕ) (text out : List ℕ) (r : ℕ) (out′ : List ℕ) 
 -- ---- texts one after another
 
 module _ (at : ℕ) (out : List ℕ) where
-  pub wrote-one : (byte : ℕ) (out′ : List ℕ) → out′ ≡ set out at byte → Wrote at (byte ∷ []) out (at + 1) out′
-  wrote-one byte out′ e = record { end = refl; bytes = e }
-
   pub wrote-then : (x y : List ℕ) (r s : ℕ) (out′ out″ : List ℕ) → Wrote at x out r out′ → Wrote r y out′ s out″ → Wrote at (x ++ y) out s out″
   wrote-then x y r s out′ out″ p q =
       record {

@@ -1,10 +1,10 @@
 -- Laws of the programs checksum and verify: their text from what the code's parts answer, and how long it is at most.
 use Prim.Native.Nat.{ℕ, _+_, _≤_}
 use native.Mathlib.Omega.{arith}
-use mathlib.Core.Path.{_≡_, refl, sym, ap, _∙_}
+use mathlib.Core.Path.{_≡_, sym, ap, _∙_}
 use mathlib.Core.Bool.{Bool, true, false}
 use mathlib.Core.List.{List, _++_}
-use lib.Dec.{ltb, eqb}
+use lib.Dec.{ltb}
 use lib.ListN.{length, take, length-append}
 use lib.Seq.{take-at, length-take-le}
 use borrow.Author.Tests.{eq-eqb, ne-eqb}
@@ -12,7 +12,7 @@ use Rattle.words.specs.Choice.{pick}
 use Rattle.words.specs.LawsChoice.{pick-true, pick-false}
 use Rattle.words.specs.Address.{configBase, addressOf}
 use Rattle.device.specs.declared.Device.{Device}
-use Rattle.device.specs.Memory.{readingOk, protected}
+use Rattle.device.specs.Memory.{protected}
 use Rattle.sheet.specs.Sheet.{sheetOk, wordsIn, readNumber, readBuffer}
 use Rattle.sheet.specs.LawsSheet.{length-words, read-sound}
 use Rattle.judge.specs.declared.Sum.{Sum}
