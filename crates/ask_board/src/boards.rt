@@ -3,6 +3,7 @@ use ask::fields;
 use ask::fields::NOWHERE;
 use ask::put;
 use ask::room;
+use board::MOST_READING;
 
 pub(crate) fn open_record(line: &[u8], at: usize, a: &mut [u8], out: &mut [u8]) -> usize {
     let mut b = room::for_bytes();
@@ -29,9 +30,13 @@ pub(crate) fn open_board(line: &[u8], at: usize, a: &mut [u8], out: &mut [u8]) -
     }
     let n = table.count;
     let m = sheet.count;
-    let mut reading = [fill.value; 8201];
+    let mut reading = [fill.value; MOST_READING];
     let opened = board::open_board(&a[..n], &b[..m], &mut reading);
     let device = opened.device;
     let next = put::record(out, at, opened.number, device);
-    put::words(out, next, &reading)
+    put_reading(out, next, &reading)
+}
+
+fn put_reading(out: &mut [u8], at: usize, reading: &[u16; MOST_READING]) -> usize {
+    put::words(out, at, reading)
 }
