@@ -226,7 +226,7 @@ fn hex_bytes(line: &[u8], from: usize, out: &mut [u8]) -> Taken
     let mut n = 0;
     let mut i = from;
     while n < out.len() {
-        let b = words::hex::byte(line, i);
+        let b = numerals::hex::byte(line, i);
         if 255 < b {
             return Taken { count: n, at: i };
         }
@@ -247,7 +247,7 @@ fn hex_words(line: &[u8], from: usize, out: &mut [u16]) -> Taken
     let mut n = 0;
     let mut i = from;
     while n < out.len() {
-        let w = words::hex::word(line, i);
+        let w = numerals::hex::word(line, i);
         if 65535 < w {
             return Taken { count: n, at: i };
         }

@@ -78,7 +78,7 @@ fn hex_bytes(out: &mut [u8], from: usize, s: &[u8]) -> usize {
         if out.len() - at < 2 {
             return NOWHERE;
         }
-        words::hex::put_byte(out, at, s[i]);
+        numerals::hex::put_byte(out, at, s[i]);
         at += 2;
         i += 1;
     }
@@ -96,7 +96,7 @@ fn hex_words(out: &mut [u8], from: usize, s: &[u16]) -> usize {
         if out.len() - at < 4 {
             return NOWHERE;
         }
-        words::hex::put_word(out, at, s[i]);
+        numerals::hex::put_word(out, at, s[i]);
         at += 4;
         i += 1;
     }

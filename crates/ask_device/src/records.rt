@@ -17,7 +17,7 @@ pub(crate) fn judge_table(line: &[u8], at: usize, a: &mut [u8], out: &mut [u8]) 
         return NOWHERE;
     }
     let n = table.count;
-    put::number(out, at, device::judge_table(&a[..n]) as u64)
+    put::number(out, at, table::judge_table(&a[..n]) as u64)
 }
 
 // The number, the record, and where its name stands.
@@ -28,7 +28,7 @@ pub(crate) fn find_device(line: &[u8], at: usize, a: &mut [u8], out: &mut [u8]) 
         return NOWHERE;
     }
     let n = table.count;
-    let f = device::find_device(&a[..n], id.value);
+    let f = table::find_device(&a[..n], id.value);
     let device = f.device;
     let next = put::record(out, at, f.number, device);
     put::two(out, next, f.name_at as u64, f.name_len as u64)

@@ -8,7 +8,7 @@ pub(crate) fn digit(line: &[u8], at: usize, out: &mut [u8]) -> usize {
     if c.at != line.len() {
         return NOWHERE;
     }
-    put::number(out, at, words::hex::digit(c.value) as u64)
+    put::number(out, at, numerals::hex::digit(c.value) as u64)
 }
 
 pub(crate) fn capital(line: &[u8], at: usize, out: &mut [u8]) -> usize {
@@ -16,14 +16,14 @@ pub(crate) fn capital(line: &[u8], at: usize, out: &mut [u8]) -> usize {
     if c.at != line.len() {
         return NOWHERE;
     }
-    put::number(out, at, words::hex::capital(c.value) as u64)
+    put::number(out, at, numerals::hex::capital(c.value) as u64)
 }
 
 pub(crate) fn digits(line: &[u8], at: usize, out: &mut [u8]) -> usize {
     if at != line.len() {
         return NOWHERE;
     }
-    let table = words::hex::digits();
+    let table = numerals::hex::digits();
     put::bytes(out, at, &table)
 }
 
@@ -46,10 +46,10 @@ pub(crate) fn ask_value(
 
 fn value(which: usize, text: &[u8], place: usize) -> u64 {
     match which {
-        8 => words::hex::byte(text, place) as u64,
-        9 => words::hex::word(text, place) as u64,
-        10 => words::hex::capital_byte(text, place) as u64,
-        _ => words::hex::capital_word(text, place) as u64,
+        8 => numerals::hex::byte(text, place) as u64,
+        9 => numerals::hex::word(text, place) as u64,
+        10 => numerals::hex::capital_byte(text, place) as u64,
+        _ => numerals::hex::capital_word(text, place) as u64,
     }
 }
 
@@ -83,9 +83,9 @@ fn most(which: usize) -> u16 {
 
 fn store(which: usize, text: &mut [u8], place: usize, value: u16) {
     match which {
-        12 => words::hex::put(text, place, (value % 256) as u8),
-        13 => words::hex::put_byte(text, place, (value % 256) as u8),
-        _ => words::hex::put_word(text, place, value),
+        12 => numerals::hex::put(text, place, (value % 256) as u8),
+        13 => numerals::hex::put_byte(text, place, (value % 256) as u8),
+        _ => numerals::hex::put_word(text, place, value),
     }
 }
 
@@ -96,5 +96,5 @@ pub(crate) fn decimal(line: &[u8], at: usize, a: &mut [u8], out: &mut [u8]) -> u
         return NOWHERE;
     }
     let n = text.count;
-    put::number(out, at, words::decimal::read(&a[..n], bound.value))
+    put::number(out, at, numerals::decimal::read(&a[..n], bound.value))
 }

@@ -9,11 +9,11 @@ use lib.ListN.{length}
 use borrow.Author.Tests.{eq-eqb, ne-eqb}
 use Rattle.words.specs.Choice.{pick}
 use Rattle.device.specs.declared.Device.{Device}
-use Rattle.device.specs.declared.Found.{Found}
+use Rattle.table.specs.declared.Found.{Found}
 use Rattle.device.specs.Record.{deviceOk}
-use Rattle.device.specs.Table.{tableOk, linesOf, hasId, refused, given, startOf, lineWith, foundIn}
+use Rattle.table.specs.Table.{tableOk, linesOf, hasId, refused, given, startOf, lineWith, foundIn}
 use Rattle.device.specs.LawsRecord.{rules}
-use Rattle.device.specs.LawsTable.{found-sound}
+use Rattle.table.specs.LawsTable.{found-sound}
 use Rattle.sheet.specs.declared.Line1.{Line1}
 use Rattle.sheet.specs.Sheet.{firstLine, sheetOk, wordsIn, readNumber, readBuffer}
 use Rattle.board.specs.Open.{recordOf, recordNumber}

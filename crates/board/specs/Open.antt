@@ -5,7 +5,7 @@ use lib.Dec.{eqb}
 use lib.Seq.{sets}
 use Rattle.words.specs.Choice.{pick}
 use Rattle.device.specs.declared.Device.{Device}
-use Rattle.device.specs.Table.{tableOk, linesOf, hasId, foundIn}
+use Rattle.table.specs.Table.{tableOk, linesOf, hasId, foundIn}
 use Rattle.sheet.specs.Sheet.{firstLine, sheetOk, wordsIn}
 
 -- the record that the sheet's first line names

@@ -21,7 +21,7 @@ pub fn open_record(table: &[u8], sheet: &[u8]) -> Opened
     ensures { λ r. ⌜ (r .number ≡ recordNumber (now (table .entry)) (now (sheet .entry))) × (r .device ≡ recordOf (now (table .entry)) (now (sheet .entry))) ⌝ }
 {
     let first = sheet::read_id(sheet);
-    let found = device::find_device(table, first.id);
+    let found = table::find_device(table, first.id);
     let device = found.device;
     if found.number == 15 {
         return Opened { number: 15, device };

@@ -5,7 +5,7 @@ use mathlib.Core.List.{List, [], _∷_}
 use lib.ListN.{getD}
 use Rattle.words.specs.declared.WordAddress.{WordAddress}
 use Rattle.device.specs.declared.Device.{Device}
-use Rattle.device.specs.declared.Found.{Found}
+use Rattle.table.specs.declared.Found.{Found}
 use Rattle.judge.specs.declared.Sum.{Sum}
 use Rattle.judge.specs.declared.Verdict.{Verdict}
 use Rattle.sheet.specs.declared.Line1.{Line1}

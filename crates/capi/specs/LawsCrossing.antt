@@ -3,7 +3,7 @@ use Prim.Native.Nat.{ℕ}
 use mathlib.Core.Path.{_≡_, refl, ap, _∙_}
 use mathlib.Core.List.{List}
 use Rattle.device.specs.declared.Device.{Device}
-use Rattle.device.specs.declared.Found.{Found}
+use Rattle.table.specs.declared.Found.{Found}
 use Rattle.capi.specs.Crossing.{deviceAt, numbersOf, Finds}
 
 -- what a search stores is the record that the other calls take

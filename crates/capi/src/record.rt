@@ -1,7 +1,7 @@
 // Device records and the device table.
 use device::Device;
 ghost use mathlib.Core.Path.{_≡_};
-ghost use Rattle.device.specs.Table.{foundIn};
+ghost use Rattle.table.specs.Table.{foundIn};
 ghost use Rattle.capi.specs.Crossing.{deviceAt, numbersOf, Finds};
 
 // The record that five numbers give.
@@ -28,7 +28,7 @@ pub extern "C" fn tickmallet_find_device(
 ) -> u8
     ensures { λ r. ⌜ Finds (foundIn (now (table .entry)) id) r (now (numbers .exit)) (now («name_at» .exit)) (now («name_len» .exit)) ⌝ }
 {
-    let found = device::find_device(table, id);
+    let found = table::find_device(table, id);
     put_device(numbers, found.device);
     *name_at = found.name_at;
     *name_len = found.name_len;

@@ -12,9 +12,9 @@ use lib.Seq.{getD-set-same, getD-set-other}
 use borrow.Author.Tests.{ne-eqb, eqb-true}
 use Rattle.words.specs.Choice.{pick}
 use Rattle.words.specs.Lists.{build}
-use Rattle.words.specs.Hex.{digitOf, byteBy, joined}
+use Rattle.numerals.specs.Hex.{digitOf, byteBy, joined}
 use Rattle.words.specs.LawsChoice.{second-holds}
-use Rattle.words.specs.LawsHex.{joined-both, joined-no-high, joined-no-low, byte-short, no-digit}
+use Rattle.numerals.specs.LawsHex.{joined-both, joined-no-high, joined-no-low, byte-short, no-digit}
 use Rattle.words.specs.LawsLists.{getD-build}
 use Rattle.hexread.specs.Line.{byteAt, countOf, offsetOf, typeOf, shapeOk, lineNumber}
 use Rattle.hexread.specs.Reader.{wordOf}

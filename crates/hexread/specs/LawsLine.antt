@@ -11,9 +11,9 @@ use lib.ListN.{length, getD}
 use borrow.Author.Tests.{lt-ltb, le-ltb, eq-eqb, ne-eqb}
 use Rattle.words.specs.Choice.{pick}
 use Rattle.words.specs.Lists.{every}
-use Rattle.words.specs.Hex.{digitOf, byteBy, joined}
+use Rattle.numerals.specs.Hex.{digitOf, byteBy, joined}
 use Rattle.words.specs.LawsChoice.{pick-true, pick-false, first-fails, second-fails}
-use Rattle.words.specs.LawsHex.{joined-both, joined-no-high, joined-no-low}
+use Rattle.numerals.specs.LawsHex.{joined-both, joined-no-high, joined-no-low}
 use Rattle.words.specs.LawsLists.{every-more, every-no}
 use Rattle.hexread.specs.Line.{byteAt, countOf, offsetOf, typeOf, isRecord, bytesTo, sumOk, typeOk, shapeOk, dataOk, lineNumber}
 

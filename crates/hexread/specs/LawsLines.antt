@@ -9,7 +9,7 @@ use lib.Dec.{eqb}
 use lib.ListN.{length}
 use borrow.Author.Tests.{eq-eqb, eqb-true, not-true}
 use Rattle.words.specs.Choice.{pick}
-use Rattle.words.specs.Text.{lf, cr, split, inFront}
+use Rattle.numerals.specs.Text.{lf, cr, split, inFront}
 use Rattle.words.specs.LawsChoice.{both, first-holds, second-holds, true-not-false}
 use Rattle.lines.specs.Lines.{withoutCr, allWithoutCr, linesOf}
 use Rattle.hexread.specs.Reader.{Reading, lineStep, refusedAt, readLines}

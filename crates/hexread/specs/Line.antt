@@ -6,7 +6,7 @@ use lib.Dec.{ltb, leb, eqb}
 use lib.ListN.{length, getD}
 use Rattle.words.specs.Choice.{pick}
 use Rattle.words.specs.Lists.{every}
-use Rattle.words.specs.Hex.{digitOf, byteBy}
+use Rattle.numerals.specs.Hex.{digitOf, byteBy}
 
 -- byte j of a line after its colon: LL, two of address, type, LL of data, sum
 unfoldable pub byteAt : List ℕ → ℕ → ℕ

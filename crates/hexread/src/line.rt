@@ -3,7 +3,7 @@ ghost use mathlib.Core.Path.{_≡_};
 ghost use Prim.Native.Nat.{_+_, _*_, _≤_};
 ghost use lib.ListN.{length};
 ghost use Rattle.words.specs.Lists.{build};
-ghost use Rattle.words.specs.Hex.{digitOf};
+ghost use Rattle.numerals.specs.Hex.{digitOf};
 ghost use Rattle.hexread.specs.LawsLine.{ByteRead, kindNumber};
 ghost use Rattle.hexread.specs.LawsDecode.{OffsetOf, Decoded, Judged};
 

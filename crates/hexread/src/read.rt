@@ -44,7 +44,7 @@ fn read_lines(words: u16, text: &[u8], image: &mut [u16]) -> ReadHex
     requires { ⌜ (length (now image) ≡ words + 9) × (length (now text) ≤ mostText) ⌝ }
     ensures { λ r. ⌜ LinesRead words (now (text .entry)) (now (image .entry)) (r .number) (r .line) (now (image .exit)) ⌝ }
 {
-    let digits = words::hex::digits();
+    let digits = numerals::hex::digits();
     let mut bytes = [0u8; 260];
     let mut at = 0;
     let mut line: u32 = 0;

@@ -9,7 +9,7 @@ ghost use mathlib.Core.List.{List};
 ghost use Prim.Native.Nat.{ℕ, _+_};
 ghost use lib.ListN.{length};
 ghost use Rattle.words.specs.Lists.{build};
-ghost use Rattle.words.specs.Hex.{digitOf};
+ghost use Rattle.numerals.specs.Hex.{digitOf};
 ghost use Rattle.hexread.specs.Reader.{recordStep, lineStep};
 ghost use Rattle.hexread.specs.LawsDecode.{Sound};
 ghost use Rattle.hexread.specs.LawsGive.{reading, Gives};

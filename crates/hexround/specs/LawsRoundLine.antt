@@ -13,9 +13,9 @@ use borrow.Author.Tests.{lt-ltb, eq-eqb, ne-eqb}
 use Rattle.words.specs.Choice.{pick}
 use Rattle.words.specs.Lists.{every}
 use Rattle.words.specs.LawsLists.{every-all}
-use Rattle.words.specs.Text.{lf, cr, split, inFront}
-use Rattle.words.specs.Hex.{digitOf, digitText, byteText}
-use Rattle.words.specs.LawsHex.{digit-of-text, byte-of-text, digit-text-low, digit-text-high}
+use Rattle.numerals.specs.Text.{lf, cr, split, inFront}
+use Rattle.numerals.specs.Hex.{digitOf, digitText, byteText}
+use Rattle.numerals.specs.LawsHex.{digit-of-text, byte-of-text, digit-text-low, digit-text-high}
 use Rattle.lines.specs.Lines.{withoutCr, allWithoutCr, linesOf}
 use Rattle.hexread.specs.Line.{byteAt, countOf, offsetOf, typeOf, isRecord, bytesTo, sumOk, typeOk, shapeOk, dataOk, lineNumber}
 use Rattle.hexwrite.specs.Writer.{sumOf, digitsOf, recordText}

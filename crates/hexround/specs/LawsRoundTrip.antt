@@ -13,7 +13,7 @@ use lib.ListN.{length, getD, take, drop, set, replicate, length-replicate, getD-
 use borrow.Author.Tests.{lt-ltb, le-ltb, le-leb, leb-true, eq-eqb, ne-eqb}
 use Rattle.words.specs.Choice.{pick}
 use Rattle.words.specs.Word.{notGiven}
-use Rattle.words.specs.Text.{split}
+use Rattle.numerals.specs.Text.{split}
 use Rattle.words.specs.Lists.{build, inRange}
 use Rattle.words.specs.Address.{configBase, addressOf, doubled}
 use Rattle.words.specs.LawsChoice.{pick-true, pick-false, decided}

@@ -10,8 +10,8 @@ use lib.ListN.{length, getD, set, length-append}
 use lib.Seq.{sets, length-sets}
 use Rattle.words.specs.Choice.{pick}
 use Rattle.words.specs.Lists.{build}
-use Rattle.words.specs.Hex.{digitText, byteText}
-use Rattle.words.specs.Text.{lf}
+use Rattle.numerals.specs.Hex.{digitText, byteText}
+use Rattle.numerals.specs.Text.{lf}
 use Rattle.words.specs.LawsLists.{sets-append, getD-build}
 use Rattle.words.specs.declared.ByteAddress.{ByteAddress}
 use Rattle.device.specs.Record.{mostWords}

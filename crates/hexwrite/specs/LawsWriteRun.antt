@@ -9,7 +9,7 @@ use lib.Seq.{sets, length-sets}
 use borrow.Author.Tests.{lt-ltb, le-ltb, eq-eqb, ne-eqb}
 use Rattle.words.specs.Choice.{pick}
 use Rattle.words.specs.Word.{notGiven}
-use Rattle.words.specs.Hex.{byteText}
+use Rattle.numerals.specs.Hex.{byteText}
 use Rattle.words.specs.Address.{configBase, addressOf, placeOf, doubled}
 use Rattle.words.specs.LawsAddress.{place-of, address-program, address-config}
 use Rattle.words.specs.declared.ByteAddress.{ByteAddress}

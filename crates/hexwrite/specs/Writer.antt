@@ -7,8 +7,8 @@ use lib.ListN.{length, getD}
 use lib.Seq.{sets}
 use Rattle.words.specs.Choice.{pick}
 use Rattle.words.specs.Word.{notGiven}
-use Rattle.words.specs.Text.{lf}
-use Rattle.words.specs.Hex.{byteText}
+use Rattle.numerals.specs.Text.{lf}
+use Rattle.numerals.specs.Hex.{byteText}
 use Rattle.words.specs.Address.{configBase, addressOf}
 use Rattle.device.specs.declared.Device.{Device}
 use Rattle.device.specs.Record.{deviceOk}

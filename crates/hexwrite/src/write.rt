@@ -14,7 +14,7 @@ ghost use Prim.Native.Nat.{_+_, _≤_};
 ghost use lib.ListN.{length};
 ghost use lib.Seq.{sets};
 ghost use Rattle.words.specs.Lists.{build};
-ghost use Rattle.words.specs.Hex.{digitText};
+ghost use Rattle.numerals.specs.Hex.{digitText};
 ghost use Rattle.device.specs.Record.{mostWords};
 ghost use Rattle.hexwrite.specs.Writer.{recordText, endBytes, textFrom, hexText, WroteHex};
 ghost use Rattle.hexwrite.specs.LawsWrite.{Wrote, refusedWith};

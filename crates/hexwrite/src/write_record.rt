@@ -4,7 +4,7 @@ ghost use Prim.Native.Nat.{_+_, _≤_};
 ghost use lib.ListN.{length};
 ghost use lib.Seq.{sets};
 ghost use Rattle.words.specs.Lists.{build};
-ghost use Rattle.words.specs.Hex.{digitText, byteText};
+ghost use Rattle.numerals.specs.Hex.{digitText, byteText};
 ghost use Rattle.hexwrite.specs.LawsWrite.{Wrote, headText, sumText};
 
 const COLON: u8 = 0x3a;

@@ -9,7 +9,7 @@ ghost use Prim.Native.Nat.{_+_, _-_, _*_, _/_, _≤_, _<_};
 ghost use mathlib.Core.List.{_++_};
 ghost use lib.ListN.{length};
 ghost use Rattle.words.specs.Lists.{build};
-ghost use Rattle.words.specs.Hex.{digitText};
+ghost use Rattle.numerals.specs.Hex.{digitText};
 ghost use Rattle.hexwrite.specs.Writer.{recordText};
 ghost use Rattle.hexwrite.specs.LawsWrite.{Wrote, upperText};
 ghost use Rattle.hexwrite.specs.LawsWriteRun.{dataAt, WordsPut};

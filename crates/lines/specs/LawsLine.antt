@@ -12,8 +12,8 @@ use lib.Seq.{take-length, take-all, length-take-le, take-take}
 use borrow.Author.Tests.{eq-eqb, ne-eqb}
 use Rattle.bytes.specs.Bytes.{indexOf, indexAfter, slice}
 use Rattle.words.specs.Choice.{pick}
-use Rattle.words.specs.Text.{lf, cr, split}
-use Rattle.words.specs.LawsText.{part, part-found, part-last}
+use Rattle.numerals.specs.Text.{lf, cr, split}
+use Rattle.numerals.specs.LawsText.{part, part-found, part-last}
 use Rattle.lines.specs.Lines.{withoutCr, allWithoutCr, linesOf, firstOf, lineAt, endOf}
 
 -- ---- the end of a line

@@ -9,7 +9,7 @@ use lib.ListN.{length, getD}
 use lib.Seq.{drop-cons, take-length}
 use borrow.Author.Tests.{ne-eqb}
 use Rattle.bytes.specs.Bytes.{indexOf, indexAfter, slice}
-use Rattle.words.specs.Text.{lf}
+use Rattle.numerals.specs.Text.{lf}
 use Rattle.lines.specs.Lines.{endOf}
 
 -- no LF stands among four bytes

@@ -7,7 +7,7 @@ use lib.ListN.{length, drop}
 use denote.Ref.{RefT, now}
 use Rattle.bytes.specs.Bytes.{indexOf}
 use Rattle.words.specs.Choice.{pick}
-use Rattle.words.specs.Text.{lf, cr, split}
+use Rattle.numerals.specs.Text.{lf, cr, split}
 use Rattle.lines.specs.declared.Lines.{Lines}
 use Rattle.lines.specs.declared.NextLine.{NextLine}
 

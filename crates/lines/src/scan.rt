@@ -2,7 +2,7 @@
 ghost use mathlib.Core.Path.{_≡_};
 ghost use Prim.Native.Nat.{_+_, _≤_};
 ghost use lib.ListN.{length};
-ghost use Rattle.words.specs.Text.{lf};
+ghost use Rattle.numerals.specs.Text.{lf};
 ghost use Rattle.lines.specs.Lines.{endOf};
 ghost use Rattle.lines.specs.LawsScan.{Four, Passing};
 ghost use Rattle.lines.specs.LawsLine.{Ended};

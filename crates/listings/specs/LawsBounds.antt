@@ -4,7 +4,7 @@ use native.Mathlib.Omega.{arith}
 use mathlib.Core.Path.{_≡_}
 use mathlib.Core.List.{List, [], _∷_}
 use lib.ListN.{length}
-use Rattle.words.specs.Hex.{byteText}
+use Rattle.numerals.specs.Hex.{byteText}
 use Rattle.target.specs.declared.Order.{Order}
 use Rattle.target.specs.Stream.{bytesOf}
 use Rattle.target.specs.LawsBoard.{length-bytes}

@@ -6,9 +6,9 @@ use mathlib.Core.Path.{_≡_, refl, sym, ap, _∙_}
 use mathlib.Core.List.{List, [], _∷_, _++_}
 use lib.ListN.{length, getD, set, drop, length-append, length-drop}
 use lib.Seq.{sets, drop-cons, length-sets}
-use Rattle.words.specs.Text.{tab, lf}
-use Rattle.words.specs.Hex.{byteText}
-use Rattle.words.specs.LawsHex.{length-byte-text}
+use Rattle.numerals.specs.Text.{tab, lf}
+use Rattle.numerals.specs.Hex.{byteText}
+use Rattle.numerals.specs.LawsHex.{length-byte-text}
 use Rattle.words.specs.LawsLists.{sets-append}
 use Rattle.print.specs.Print.{Prints}
 use Rattle.listings.specs.Streams.{streamText}

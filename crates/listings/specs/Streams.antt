@@ -4,8 +4,8 @@ use mathlib.Core.List.{List, [], _∷_, _++_}
 use lib.Dec.{leb, eqb}
 use lib.ListN.{length, getD}
 use Rattle.words.specs.Choice.{pick}
-use Rattle.words.specs.Text.{tab, lf}
-use Rattle.words.specs.Hex.{byteText}
+use Rattle.numerals.specs.Text.{tab, lf}
+use Rattle.numerals.specs.Hex.{byteText}
 use Rattle.target.specs.Stream.{bytesOf}
 use Rattle.hexread.specs.Reader.{Outcome, blankImage, refusedAt, readOf}
 use Rattle.plan.specs.Steps.{updateSteps, freshSteps, readBackSteps}

@@ -45,10 +45,10 @@ fn put_step(out: &mut [u8], at: usize, code: u8, low: u8, high: u8) -> usize
     requires { ⌜ at ≤ 900000 ⌝ }
     ensures { λ r. ⌜ Wrote at (stepText code low high) (now (out .entry)) r (now (out .exit)) ⌝ }
 {
-    words::hex::put_byte(out, at, code);
-    words::hex::put(out, at + 2, TAB);
-    words::hex::put_byte(out, at + 3, high);
-    words::hex::put_byte(out, at + 5, low);
-    words::hex::put(out, at + 7, LF);
+    numerals::hex::put_byte(out, at, code);
+    numerals::hex::put(out, at + 2, TAB);
+    numerals::hex::put_byte(out, at + 3, high);
+    numerals::hex::put_byte(out, at + 5, low);
+    numerals::hex::put(out, at + 7, LF);
     at + 8
 }

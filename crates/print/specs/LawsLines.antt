@@ -8,9 +8,9 @@ use lib.Dec.{eqb}
 use lib.ListN.{length, length-append}
 use borrow.Author.Tests.{eq-eqb, ne-eqb, eqb-true}
 use Rattle.words.specs.Choice.{pick}
-use Rattle.words.specs.Text.{tab, lf}
-use Rattle.words.specs.Hex.{wordText}
-use Rattle.words.specs.LawsHex.{length-word-text}
+use Rattle.numerals.specs.Text.{tab, lf}
+use Rattle.numerals.specs.Hex.{wordText}
+use Rattle.numerals.specs.LawsHex.{length-word-text}
 use Rattle.print.specs.Print.{decimalText, refusedText, sumText, verdictText, Prints}
 use Rattle.print.specs.LawsPrint.{Wrote, part, prints, wrote-as, wrote-then, length-decimal}
 

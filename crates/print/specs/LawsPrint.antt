@@ -11,9 +11,9 @@ use lib.ListN.{length, getD, set, drop, length-append, drop-of-length-le}
 use lib.Seq.{sets, drop-cons}
 use borrow.Author.Tests.{lt-ltb, le-ltb}
 use Rattle.words.specs.Choice.{pick}
-use Rattle.words.specs.Hex.{wordText}
+use Rattle.numerals.specs.Hex.{wordText}
 use Rattle.words.specs.LawsChoice.{pick-true, pick-false}
-use Rattle.words.specs.LawsHex.{length-word-text}
+use Rattle.numerals.specs.LawsHex.{length-word-text}
 use Rattle.words.specs.LawsLists.{sets-append}
 use Rattle.print.specs.Print.{digits, decimalText, Prints}
 

@@ -6,8 +6,8 @@ use lib.Dec.{ltb, eqb}
 use lib.ListN.{length}
 use lib.Seq.{sets}
 use Rattle.words.specs.Choice.{pick}
-use Rattle.words.specs.Text.{tab, lf}
-use Rattle.words.specs.Hex.{wordText}
+use Rattle.numerals.specs.Text.{tab, lf}
+use Rattle.numerals.specs.Hex.{wordText}
 
 -- the decimal digits of a number, at most n of them, most significant first
 unfoldable pub digits : (n number : ℕ) → List ℕ

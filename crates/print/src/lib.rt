@@ -43,7 +43,7 @@ pub fn text(out: &mut [u8], text: &[u8]) -> usize
 {
     let mut i = 0;
     while i < text.len() {
-        words::hex::put(out, i, text[i]);
+        numerals::hex::put(out, i, text[i]);
         i += 1;
     }
     i

@@ -1,7 +1,7 @@
 // The parts of a line: each begins where the one before it ends, and nothing is stored past the end of the buffer.
 ghost use mathlib.Core.List.{[], _∷_, _++_};
 ghost use Prim.Native.Nat.{_≤_};
-ghost use Rattle.words.specs.Hex.{wordText};
+ghost use Rattle.numerals.specs.Hex.{wordText};
 ghost use Rattle.print.specs.Print.{decimalText};
 ghost use Rattle.print.specs.LawsPrint.{Wrote};
 
@@ -10,7 +10,7 @@ fn put_one(out: &mut [u8], at: usize, byte: u8) -> usize
     requires { ⌜ at ≤ 1000 ⌝ }
     ensures { λ r. ⌜ Wrote at (byte ∷ []) (now (out .entry)) r (now (out .exit)) ⌝ }
 {
-    words::hex::put(out, at, byte);
+    numerals::hex::put(out, at, byte);
     at + 1
 }
 
@@ -40,6 +40,6 @@ pub(crate) fn put_hex(out: &mut [u8], at: usize, word: u16, mark: u8) -> usize
     requires { ⌜ at ≤ 900 ⌝ }
     ensures { λ r. ⌜ Wrote at (wordText word ++ mark ∷ []) (now (out .entry)) r (now (out .exit)) ⌝ }
 {
-    words::hex::put_word(out, at, word);
+    numerals::hex::put_word(out, at, word);
     put_one(out, at + 4, mark)
 }

@@ -50,7 +50,7 @@ fn entry(i: usize, word: u16) {
 
 fn line(a: WordAddress, word: u16) {
     let mut text = *b"\t0000\t0000\n";
-    words::hex::put_word(&mut text, 1, a.0);
-    words::hex::put_word(&mut text, 6, word);
+    numerals::hex::put_word(&mut text, 1, a.0);
+    numerals::hex::put_word(&mut text, 6, word);
     io::write_all(STDOUT_FILENO, &text);
 }

@@ -11,8 +11,8 @@ use borrow.Author.Tests.{eq-eqb, eqb-true}
 use Rattle.words.specs.Choice.{pick}
 use Rattle.words.specs.Word.{isWord}
 use Rattle.words.specs.Lists.{every}
-use Rattle.words.specs.Text.{tab, lf}
-use Rattle.words.specs.Hex.{capitalOf, wordBy}
+use Rattle.numerals.specs.Text.{tab, lf}
+use Rattle.numerals.specs.Hex.{capitalOf, wordBy}
 use Rattle.words.specs.Address.{configBase}
 use Rattle.words.specs.LawsChoice.{both, first-holds, second-holds, same-test}
 use Rattle.words.specs.LawsLists.{every-at, every-all}

@@ -11,8 +11,8 @@ use borrow.Author.Tests.{eq-eqb, ne-eqb, lt-ltb, le-ltb}
 use Rattle.words.specs.Choice.{pick}
 use Rattle.words.specs.Word.{isWord}
 use Rattle.words.specs.Lists.{overlay}
-use Rattle.words.specs.Text.{tab, lf}
-use Rattle.words.specs.Hex.{capitalOf, wordBy}
+use Rattle.numerals.specs.Text.{tab, lf}
+use Rattle.numerals.specs.Hex.{capitalOf, wordBy}
 use Rattle.words.specs.Address.{configBase}
 use Rattle.words.specs.LawsChoice.{pick-true, pick-false, first-fails}
 use Rattle.words.specs.LawsLists.{every-none, every-more, every-no, getD-past, same-entries, length-overlay, overlay-inside, overlay-none, overlay-more}

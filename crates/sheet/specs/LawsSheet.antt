@@ -10,11 +10,11 @@ use mathlib.Core.List.{List, [], _∷_, _++_}
 use lib.Dec.{ltb, eqb}
 use lib.ListN.{length, getD, length-append}
 use borrow.Author.Tests.{lt-ltb, le-ltb, eq-eqb, eqb-true}
-use Rattle.words.specs.Text.{tab, lf}
-use Rattle.words.specs.Hex.{capitalOf, wordBy, wordText}
+use Rattle.numerals.specs.Text.{tab, lf}
+use Rattle.numerals.specs.Hex.{capitalOf, wordBy, wordText}
 use Rattle.words.specs.Address.{configBase}
 use Rattle.words.specs.LawsChoice.{pick-true, pick-false, both, first-holds, second-holds, true-not-false}
-use Rattle.words.specs.LawsHex.{length-word-text}
+use Rattle.numerals.specs.LawsHex.{length-word-text}
 use Rattle.words.specs.LawsLists.{length-build, getD-build, built}
 use Rattle.words.specs.LawsWord.{words-long, words-each}
 use Rattle.device.specs.declared.Device.{Device}

@@ -8,8 +8,8 @@ use mathlib.Core.Path.{_≡_, sym, ap, _∙_}
 use mathlib.Core.List.{List, [], _∷_, _++_}
 use lib.ListN.{length, getD}
 use Rattle.words.specs.Choice.{pick}
-use Rattle.words.specs.Hex.{capitalOf, joined, byteBy, wordBy, digitText, byteText, wordText}
-use Rattle.words.specs.LawsHex.{within-yes, within-low, within-high, joined-both, joined-no-high, joined-no-low, digit-text-low, digit-text-high, capital-of-text, byte-of-text}
+use Rattle.numerals.specs.Hex.{capitalOf, joined, byteBy, wordBy, digitText, byteText, wordText}
+use Rattle.numerals.specs.LawsHex.{within-yes, within-low, within-high, joined-both, joined-no-high, joined-no-low, digit-text-low, digit-text-high, capital-of-text, byte-of-text}
 use Rattle.words.specs.LawsLists.{same-entries}
 
 -- the bytes of s stand in the text from a place on

@@ -11,10 +11,10 @@ use lib.ListN.{length, getD, set}
 use lib.Seq.{sets}
 use borrow.Author.Tests.{le-leb, lt-leb}
 use Rattle.words.specs.Choice.{pick}
-use Rattle.words.specs.Text.{tab, lf}
-use Rattle.words.specs.Hex.{wordText}
+use Rattle.numerals.specs.Text.{tab, lf}
+use Rattle.numerals.specs.Hex.{wordText}
 use Rattle.words.specs.Address.{configBase}
-use Rattle.words.specs.LawsHex.{length-word-text}
+use Rattle.numerals.specs.LawsHex.{length-word-text}
 use Rattle.words.specs.LawsLists.{sets-append}
 use Rattle.device.specs.declared.Device.{Device}
 use Rattle.device.specs.Record.{deviceOk}

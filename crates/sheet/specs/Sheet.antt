@@ -8,8 +8,8 @@ use lib.Seq.{sets}
 use Rattle.words.specs.Choice.{pick}
 use Rattle.words.specs.Word.{isWord}
 use Rattle.words.specs.Lists.{build}
-use Rattle.words.specs.Text.{tab, lf}
-use Rattle.words.specs.Hex.{capitalOf, wordBy, wordText}
+use Rattle.numerals.specs.Text.{tab, lf}
+use Rattle.numerals.specs.Hex.{capitalOf, wordBy, wordText}
 use Rattle.words.specs.Address.{configBase}
 use Rattle.device.specs.declared.Device.{Device}
 use Rattle.device.specs.Record.{deviceOk}

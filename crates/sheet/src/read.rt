@@ -36,7 +36,7 @@ pub fn read_sheet(d: Device, text: &[u8], buffer: &mut [u16]) -> u8
 pub fn read_id(text: &[u8]) -> Line1
     ensures { λ r. ⌜ r ≡ firstLine (now (text .entry)) ⌝ }
 {
-    let id = words::hex::capital_word(text, 0);
+    let id = numerals::hex::capital_word(text, 0);
     if WORD_LIMIT as u32 <= id {
         return NO_ID;
     }
@@ -60,7 +60,7 @@ fn places_ok(id: u16, program: usize, text: &[u8]) -> bool
     if text.len() != 5 + 45 * lines + 50 {
         return false;
     }
-    if words::hex::capital_word(text, 0) != id as u32 {
+    if numerals::hex::capital_word(text, 0) != id as u32 {
         return false;
     }
     if byte_is(text, 4, LF) {} else {
@@ -92,7 +92,7 @@ fn line_ok(text: &[u8], at: usize, address: u16, count: usize) -> bool
     requires { ⌜ at + 5 + 5 * count ≤ length (now text) ⌝ }
     ensures { λ r. ⌜ r ≡ lineOk (now (text .entry)) at address count ⌝ }
 {
-    if words::hex::capital_word(text, at) != address as u32 {
+    if numerals::hex::capital_word(text, at) != address as u32 {
         return false;
     }
     if fields_ok(text, at + 4, count) {} else {
@@ -124,7 +124,7 @@ fn field_ok(text: &[u8], at: usize) -> bool
     if byte_is(text, at, TAB) {} else {
         return false;
     }
-    words::hex::capital_word(text, at + 1) < WORD_LIMIT as u32
+    numerals::hex::capital_word(text, at + 1) < WORD_LIMIT as u32
 }
 
 // Whether a byte stands at a place: past the end none does.
@@ -145,7 +145,7 @@ fn store(program: usize, text: &[u8], buffer: &mut [u16])
 {
     let mut i = 0;
     while i < buffer.len() {
-        buffer[i] = words::hex::capital_word(text, digits_at(program, i)) as u16;
+        buffer[i] = numerals::hex::capital_word(text, digits_at(program, i)) as u16;
         i += 1;
     }
 }

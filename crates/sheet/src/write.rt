@@ -35,8 +35,8 @@ pub fn write_sheet(d: Device, reading: &[u16], out: &mut [u8]) -> Written
             length: 0,
         };
     }
-    words::hex::put_word(out, 0, d.id);
-    words::hex::put(out, 4, LF);
+    numerals::hex::put_word(out, 0, d.id);
+    numerals::hex::put(out, 4, LF);
     put_lines(out, lines, reading);
     put_line(out, 5 + 45 * lines, CONFIG_BASE, 9, program, reading);
     Written { number: 0, length }
@@ -59,9 +59,9 @@ fn put_line(out: &mut [u8], at: usize, address: u16, count: usize, first: usize,
     requires { ⌜ (at + 5 + 5 * count ≤ length (now out)) × (first + count ≤ length (now l)) ⌝ }
     ensures { λ _. ⌜ now (out .exit) ≡ sets (now (out .entry)) at (lineText address count first (now (l .entry))) ⌝ }
 {
-    words::hex::put_word(out, at, address);
+    numerals::hex::put_word(out, at, address);
     put_fields(out, at + 4, count, first, l);
-    words::hex::put(out, at + 4 + 5 * count, LF);
+    numerals::hex::put(out, at + 4 + 5 * count, LF);
 }
 
 // The words from an entry on, a tab before each.
@@ -71,8 +71,8 @@ fn put_fields(out: &mut [u8], at: usize, count: usize, first: usize, l: &[u16])
 {
     let mut k = 0;
     while k < count {
-        words::hex::put(out, at + 5 * k, TAB);
-        words::hex::put_word(out, at + 5 * k + 1, l[first + k]);
+        numerals::hex::put(out, at + 5 * k, TAB);
+        numerals::hex::put_word(out, at + 5 * k + 1, l[first + k]);
         k += 1;
     }
 }

@@ -13,10 +13,10 @@ use lib.Seq.{sets, length-sets, sets-eq, take-all, take-append-seam}
 use borrow.Author.Tests.{lt-ltb, le-ltb, le-leb, lt-leb, eq-eqb, ne-eqb, eqb-true, ltb-true}
 use Rattle.bytes.specs.Bytes.{indexOf, slice}
 use Rattle.words.specs.Choice.{pick}
-use Rattle.words.specs.Text.{tab, lf, split}
-use Rattle.words.specs.Hex.{capitalOf, byteBy, wordBy}
+use Rattle.numerals.specs.Text.{tab, lf, split}
+use Rattle.numerals.specs.Hex.{capitalOf, byteBy, wordBy}
 use Rattle.words.specs.LawsChoice.{first-fails, second-fails, first-holds, second-holds}
-use Rattle.words.specs.LawsText.{part, part-found, part-last, some-piece}
+use Rattle.numerals.specs.LawsText.{part, part-found, part-last, some-piece}
 use Rattle.words.specs.LawsLists.{sets-append}
 use Rattle.trials.specs.Trial.{mostSteps, isStep, stepBytes, badFrom, bytesIn, badLine, streamOf}
 

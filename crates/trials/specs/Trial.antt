@@ -6,8 +6,8 @@ use lib.Dec.{ltb, leb, eqb}
 use lib.ListN.{length, getD, take, replicate}
 use Rattle.words.specs.Choice.{pick}
 use Rattle.words.specs.Word.{erased}
-use Rattle.words.specs.Text.{tab, lf, split}
-use Rattle.words.specs.Hex.{capitalOf, byteBy, wordBy}
+use Rattle.numerals.specs.Text.{tab, lf, split}
+use Rattle.numerals.specs.Hex.{capitalOf, byteBy, wordBy}
 use Rattle.device.specs.declared.Device.{Device}
 use Rattle.sheet.specs.Sheet.{sheetText}
 use Rattle.target.specs.Run.{Run, ran}

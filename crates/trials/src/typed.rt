@@ -51,13 +51,13 @@ fn is_step(line: &[u8]) -> bool
     if line.len() != 7 {
         return false;
     }
-    if 256 <= words::hex::capital_byte(line, 0) {
+    if 256 <= numerals::hex::capital_byte(line, 0) {
         return false;
     }
     if line[2] != TAB {
         return false;
     }
-    words::hex::capital_word(line, 3) < 65536
+    numerals::hex::capital_word(line, 3) < 65536
 }
 
 // Stores a step's three bytes.
@@ -65,9 +65,9 @@ fn put_step(line: &[u8], stream: &mut [u8], at: usize)
     requires { ⌜ (isStep (now line) ≡ true) × (at ≤ 98304) ⌝ }
     ensures { λ _. ⌜ now (stream .exit) ≡ sets (now (stream .entry)) at (stepBytes (now (line .entry))) ⌝ }
 {
-    let code = words::hex::capital_byte(line, 0);
-    let payload = words::hex::capital_word(line, 3);
-    words::hex::put(stream, at, code as u8);
-    words::hex::put(stream, at + 1, (payload % 256) as u8);
-    words::hex::put(stream, at + 2, (payload / 256) as u8);
+    let code = numerals::hex::capital_byte(line, 0);
+    let payload = numerals::hex::capital_word(line, 3);
+    numerals::hex::put(stream, at, code as u8);
+    numerals::hex::put(stream, at + 1, (payload % 256) as u8);
+    numerals::hex::put(stream, at + 2, (payload / 256) as u8);
 }

@@ -2,15 +2,9 @@
 pub mod Choice
 pub mod Word
 pub mod Address
-pub mod Text
-pub mod Hex
-pub mod Decimal
 pub mod Lists
 pub mod LawsPromise
 pub mod LawsChoice
 pub mod LawsWord
 pub mod LawsAddress
-pub mod LawsText
-pub mod LawsHex
-pub mod LawsDecimal
 pub mod LawsLists

@@ -1,9 +1,6 @@
-// Words of the target, the two kinds of address, and the text of hex and decimal numbers. No call here has a `requires`.
+// Words of the target, and the two kinds of address. No call here has a `requires`.
 pub mod address;
-pub mod decimal;
-pub mod hex;
 pub mod list;
-mod table;
 
 // The address of a word of the target.
 pub struct WordAddress(pub u16);

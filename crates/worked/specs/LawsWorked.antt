@@ -4,8 +4,8 @@ use mathlib.Core.Bool.{Bool, true}
 use Rattle.words.specs.Choice.{pick}
 use Rattle.words.specs.Word.{isWord, bit, wordsOf}
 use Rattle.words.specs.Lists.{build, inRange, every}
-use Rattle.words.specs.Text.{split, inFront}
-use Rattle.words.specs.Hex.{within, digitOf, joined, byteBy}
+use Rattle.numerals.specs.Text.{split, inFront}
+use Rattle.numerals.specs.Hex.{within, digitOf, joined, byteBy}
 use Rattle.words.specs.Address.{placed, halved, entryOf, successor}
 use Rattle.device.specs.Record.{rowOk, wordsOk, deviceOk}
 use Rattle.device.specs.Memory

@@ -1,5 +1,5 @@
 -- Each word passed is stored, and the rest is as it was.
-use Rattle.words.specs.Hex.{capitalOf, wordBy}
+use Rattle.numerals.specs.Hex.{capitalOf, wordBy}
 use denote.Ref.{now}
 use Prim.Native.Nat.{_+_, _-_, _≤_}
 use mathlib.Core.Path.{_≡_, ap, _∙_}

@@ -1,0 +1,350 @@
+-- Laws of the device table: its test line by line, and the search for an ID.
+use Prim.Native.Nat.{ℕ, suc, _+_, _-_, _≤_, _<_}
+use native.Mathlib.Nat.{zero-add, add-zero}
+use native.Mathlib.Omega.{arith}
+use mathlib.Core.Path.{_≡_, refl, sym, ap, _∙_}
+use mathlib.Core.Bool.{Bool, true, false, _&&_, _||_}
+use mathlib.Core.List.{List, [], _∷_}
+use lib.Dec.{leb, eqb}
+use lib.ListN.{length, take, drop, length-drop, drop-of-length-le}
+use lib.Seq.{length-take-le, take-all}
+use borrow.Author.Tests.{eq-eqb, ne-eqb, le-leb, lt-leb}
+use Rattle.bytes.specs.Bytes.{indexOf, slice}
+use Rattle.words.specs.Choice.{pick}
+use Rattle.words.specs.LawsChoice.{pick-true, pick-false, first-holds, second-holds, first-fails, second-fails, true-not-false}
+use Rattle.device.specs.declared.Device.{Device}
+use Rattle.numerals.specs.Text.{tab, lf, split}
+use Rattle.numerals.specs.Decimal.{isDecimal}
+use Rattle.device.specs.Record.{deviceOk}
+use Rattle.numerals.specs.LawsText.{part, part-found, part-last, some-piece}
+use Rattle.table.specs.LawsLine.{LineRead}
+use Rattle.table.specs.Table.{butLast, lastOf, field, nameOk, hexOk, deviceOf, lineOk, idOf, linesOf, endsInLf, allLinesOk, hasId, idsOnce, tableOk, tableNumber, lineWith, startOf, refused, given, foundIn}
+
+-- ---- all pieces but the last, and the last
+
+module _ (mark : ℕ) (p : List ℕ) (l : List ℕ) where
+  pub but-last-more : butLast (p ∷ split mark l) ≡ p ∷ butLast (split mark l)
+  but-last-more = some-piece mark l (λ ps. butLast (p ∷ ps) ≡ p ∷ butLast ps) (λ q qs. unfold butLast in refl)
+
+  pub last-more : lastOf (p ∷ split mark l) ≡ lastOf (split mark l)
+  last-more = some-piece mark l (λ ps. lastOf (p ∷ ps) ≡ lastOf ps) (λ q qs. unfold lastOf in refl)
+
+-- ---- the first line of what is left of a text
+
+-- r is where a search for LF from `from` on ended
+module _ (text : List ℕ) (from r : ℕ) (e : r ≡ from + indexOf lf (slice from (length text) text)) (within : from ≤ length text) where
+  pub lines-more : r < length text → linesOf (drop from text) ≡ take (r - from) (drop from text) ∷ linesOf (drop (r + 1) text)
+  unfolding linesOf
+  lines-more h =
+      ap butLast (part-found lf text from r e within h) ∙ (but-last-more lf (part from r text) (drop (r + 1) text) ∙ (unfold part in refl))
+
+  pub ends-more : r < length text → endsInLf (drop from text) ≡ endsInLf (drop (r + 1) text)
+  unfolding endsInLf
+  ends-more h =
+      ap (λ s. eqb (length (lastOf s)) 0) (part-found lf text from r e within h)
+      ∙ ap (λ s. eqb (length s) 0) (last-more lf (part from r text) (drop (r + 1) text))
+
+  pub lines-none : length text ≤ r → linesOf (drop from text) ≡ []
+  unfolding linesOf
+  lines-none h = rw (part-last lf text from r e within h) (unfold butLast in refl)
+
+  -- what is left has characters and no LF
+  pub ends-not : length text ≤ r → from < length text → endsInLf (drop from text) ≡ false
+  unfolding endsInLf
+  ends-not h p =
+      rw (part-last lf text from r e within h)
+      (unfold lastOf in ne-eqb (length (drop from text)) 0 (λ q. let n : length text - from ≡ 0 = rw length-drop at q in omega arith))
+
+pub lines-end : (text : List ℕ) (from : ℕ) → length text ≤ from → linesOf (drop from text) ≡ []
+unfolding linesOf split butLast
+lines-end text from h = rw (drop-of-length-le text h)
+
+pub ends-end : (text : List ℕ) (from : ℕ) → length text ≤ from → endsInLf (drop from text) ≡ true
+unfolding endsInLf split lastOf
+ends-end text from h = rw (drop-of-length-le text h)
+
+-- ---- the table's test, when n lines have been passed
+
+unfoldable pub leftOk : ℕ → List ℕ → Bool
+leftOk n rest =
+    endsInLf rest
+    && leb 1 (n + length (linesOf rest))
+    && leb (n + length (linesOf rest)) 64
+    && allLinesOk (linesOf rest)
+    && idsOnce (linesOf rest)
+
+pub left-all : (text : List ℕ) → tableOk text ≡ leftOk 0 (drop 0 text)
+unfolding tableOk leftOk
+left-all text = rw (zero-add (length (linesOf text)))
+
+module _ (n : ℕ) (text : List ℕ) (from r : ℕ) (e : r ≡ from + indexOf lf (slice from (length text) text)) (within : from < length text) where
+  here : from ≤ length text
+  here = omega arith
+
+  pub left-no-end : length text ≤ r → leftOk n (drop from text) ≡ false
+  unfolding leftOk
+  left-no-end h = rw (ends-not text from r e here h within)
+
+  module _ (h : r < length text) where
+    pub left-bad-line : lineOk (take (r - from) (drop from text)) ≡ false → leftOk n (drop from text) ≡ false
+    unfolding leftOk allLinesOk
+    left-bad-line f =
+        rw (lines-more text from r e here h, f)
+        (first-fails (chain && false) (idsOnce (l ∷ rest)) (second-fails chain false refl))
+      where
+        l : List ℕ
+        l = take (r - from) (drop from text)
+
+        rest : List (List ℕ)
+        rest = linesOf (drop (r + 1) text)
+
+        chain : Bool
+        chain = endsInLf (drop from text) && leb 1 (n + suc (length rest)) && leb (n + suc (length rest)) 64
+
+    pub left-twice : hasId (idOf (take (r - from) (drop from text))) (linesOf (drop (r + 1) text)) ≡ true → leftOk n (drop from text) ≡ false
+    unfolding leftOk idsOnce
+    left-twice t =
+        rw (lines-more text from r e here h, t)
+        (second-fails (endsInLf (drop from text) && leb 1 (n + suc (length rest)) && leb (n + suc (length rest)) 64 && allLinesOk (take (r - from) (drop from text) ∷ rest)) false refl)
+      where
+        rest : List (List ℕ)
+        rest = linesOf (drop (r + 1) text)
+
+    pub left-on : lineOk (take (r - from) (drop from text)) ≡ true → hasId (idOf (take (r - from) (drop from text))) (linesOf (drop (r + 1) text)) ≡ false
+        → leftOk n (drop from text) ≡ leftOk (n + 1) (drop (r + 1) text)
+    unfolding leftOk allLinesOk idsOnce
+    left-on t f =
+        let count : n + suc (length (linesOf (drop (r + 1) text))) ≡ n + 1 + length (linesOf (drop (r + 1) text)) = omega arith in
+        rw (lines-more text from r e here h, ends-more text from r e here h, t, f, count)
+
+-- more than 64 lines
+pub left-many : (n : ℕ) (rest : List ℕ) → 64 < n → leftOk n rest ≡ false
+unfolding leftOk
+left-many n rest h =
+    rw (lt-leb (n + length (linesOf rest)) 64 (omega arith))
+    (first-fails (endsInLf rest && leb 1 (n + length (linesOf rest)) && false && allLinesOk (linesOf rest)) (idsOnce (linesOf rest))
+    (first-fails (endsInLf rest && leb 1 (n + length (linesOf rest)) && false) (allLinesOk (linesOf rest))
+    (second-fails (endsInLf rest && leb 1 (n + length (linesOf rest))) false refl)))
+
+-- at the text's end
+module _ (n : ℕ) (text : List ℕ) (from : ℕ) (done : length text ≤ from) where
+  pub left-none : n < 1 → leftOk n (drop from text) ≡ false
+  unfolding leftOk
+  left-none h =
+      rw (ends-end text from done, lines-end text from done, add-zero n, lt-leb 1 n h)
+
+  pub left-some : 1 ≤ n → n ≤ 64 → leftOk n (drop from text) ≡ true
+  unfolding leftOk allLinesOk idsOnce
+  left-some p q = rw (ends-end text from done, lines-end text from done, add-zero n, le-leb 1 n p, le-leb n 64 q)
+
+-- ---- the answers
+
+module _ (text : List ℕ) where
+  pub table-bad : tableOk text ≡ false → 15 ≡ tableNumber text
+  unfolding tableNumber
+  table-bad f = sym (pick-false (tableOk text) 0 15 f)
+
+  pub table-good : tableOk text ≡ true → 0 ≡ tableNumber text
+  unfolding tableNumber
+  table-good t = sym (pick-true (tableOk text) 0 15 t)
+
+  pub good-of-number : tableNumber text ≡ 0 → tableOk text ≡ true
+  unfolding tableNumber pick
+  good-of-number e = by (tableOk text) e
+    where
+      by : (t : Bool) → pick {A = ℕ} t 0 15 ≡ 0 → t ≡ true
+      by true q = refl
+      by false q = absurd (omega arith)
+
+  pub bad-of-number : (tableNumber text ≡ 0 → ⊥) → tableOk text ≡ false
+  unfolding tableNumber pick
+  bad-of-number h = by (tableOk text) h
+    where
+      by : (t : Bool) → (pick {A = ℕ} t 0 15 ≡ 0 → ⊥) → t ≡ false
+      by true q = absurd (q refl)
+      by false q = refl
+
+-- ---- the search for an ID
+
+-- the lines from `from` on still hold what is looked for
+pub record Ahead (id : ℕ) (text : List ℕ) (from : ℕ) : Type 0 where
+  pub has : hasId id (linesOf text) ≡ hasId id (linesOf (drop from text))
+  pub start : startOf id (linesOf text) ≡ from + startOf id (linesOf (drop from text))
+  pub line : lineWith id (linesOf text) ≡ lineWith id (linesOf (drop from text))
+
+-- what a search answers: whether a line gives the ID and, if one does, where the first of them stands
+pub record Sought (id : ℕ) (text : List ℕ) (found : Bool) (at stop : ℕ) : Type 0 where
+  pub has : found ≡ hasId id (linesOf text)
+  pub start : found ≡ true → at ≡ startOf id (linesOf text)
+  pub line : found ≡ true → take (stop - at) (drop at text) ≡ lineWith id (linesOf text)
+  pub order : at ≤ stop
+  pub inside : stop ≤ length text
+
+module _ (id : ℕ) (l : List ℕ) (ls : List (List ℕ)) where
+  module _ (e : idOf l ≡ id) where
+    has-here : hasId id (l ∷ ls) ≡ true
+    unfolding hasId
+    has-here = rw (eq-eqb (idOf l) id e)
+
+    start-here : startOf id (l ∷ ls) ≡ 0
+    unfolding startOf pick
+    start-here = rw (eq-eqb (idOf l) id e)
+
+    line-here : lineWith id (l ∷ ls) ≡ l
+    unfolding lineWith pick
+    line-here = rw (eq-eqb (idOf l) id e)
+
+  module _ (n : idOf l ≡ id → ⊥) where
+    has-later : hasId id (l ∷ ls) ≡ hasId id ls
+    unfolding hasId
+    has-later = rw (ne-eqb (idOf l) id n)
+
+    start-later : startOf id (l ∷ ls) ≡ length l + 1 + startOf id ls
+    unfolding startOf pick
+    start-later = rw (ne-eqb (idOf l) id n)
+
+    line-later : lineWith id (l ∷ ls) ≡ lineWith id ls
+    unfolding lineWith pick
+    line-later = rw (ne-eqb (idOf l) id n)
+
+pub ahead-all : (id : ℕ) (text : List ℕ) → Ahead id text 0
+ahead-all id text = record { has = refl; start = sym (zero-add (startOf id (linesOf text))); line = refl }
+
+module _ (id : ℕ) (text : List ℕ) (from r : ℕ) (e : r ≡ from + indexOf lf (slice from (length text) text)) (within : from < length text) (so : Ahead id text from) where
+  here₂ : from ≤ length text
+  here₂ = omega arith
+
+  pub sought-no-end : length text ≤ r → Sought id text false 0 0
+  sought-no-end h =
+      record {
+        has = sym (so .has ∙ (rw (lines-none text from r e here₂ h) (unfold hasId in refl)));
+        start = λ t. absurd (true-not-false t refl);
+        line = λ t. absurd (true-not-false t refl);
+        order = omega arith;
+        inside = omega arith;
+      }
+
+  module _ (h : r < length text) (given : ℕ) (g : given ≡ idOf (take (r - from) (drop from text))) where
+    l : List ℕ
+    l = take (r - from) (drop from text)
+
+    ls : List (List ℕ)
+    ls = linesOf (drop (r + 1) text)
+
+    pub sought-here : given ≡ id → Sought id text true from r
+    unfolding l ls
+    sought-here q =
+        let more : linesOf (drop from text) ≡ l ∷ ls = lines-more text from r e here₂ h in
+        let same : idOf l ≡ id = sym g ∙ q in
+        record {
+          has = sym (so .has ∙ (ap (hasId id) more ∙ has-here id l ls same));
+          start = λ t. sym (so .start ∙ (ap (λ x. from + startOf id x) more ∙ (ap (λ n. from + n) (start-here id l ls same) ∙ add-zero from)));
+          line = λ t. sym (so .line ∙ (ap (lineWith id) more ∙ line-here id l ls same));
+          order = omega arith;
+          inside = omega arith;
+        }
+
+    pub ahead-on : (given ≡ id → ⊥) → Ahead id text (r + 1)
+    unfolding l ls
+    ahead-on q =
+        let more : linesOf (drop from text) ≡ l ∷ ls = lines-more text from r e here₂ h in
+        let other : idOf l ≡ id → ⊥ = λ z. q (g ∙ z) in
+        let long : length l ≡ r - from = length-take-le (r - from) (drop from text) (rw length-drop (omega arith)) in
+        let sum : from + (length l + 1 + startOf id ls) ≡ r + 1 + startOf id ls = omega arith in
+        record {
+          has = so .has ∙ (ap (hasId id) more ∙ has-later id l ls other);
+          start = so .start ∙ (ap (λ x. from + startOf id x) more ∙ (ap (λ n. from + n) (start-later id l ls other) ∙ sum));
+          line = so .line ∙ (ap (lineWith id) more ∙ line-later id l ls other);
+        }
+
+pub sought-none : (id : ℕ) (text : List ℕ) (from : ℕ) → Ahead id text from → length text ≤ from → Sought id text false 0 0
+sought-none id text from so h =
+    record {
+      has = sym (so .has ∙ (rw (lines-end text from h) (unfold hasId in refl)));
+      start = λ t. absurd (true-not-false t refl);
+      line = λ t. absurd (true-not-false t refl);
+      order = omega arith;
+      inside = omega arith;
+    }
+
+-- ---- the record of an ID
+
+-- in a sound table every line is sound
+line-with-ok : (id : ℕ) (ls : List (List ℕ)) → allLinesOk ls ≡ true → hasId id ls ≡ true → lineOk (lineWith id ls) ≡ true
+unfolding allLinesOk hasId lineWith
+line-with-ok id [] a h = absurd (true-not-false h refl)
+line-with-ok id (l ∷ ls) a h = by (eqb (idOf l) id) h (line-with-ok id ls (second-holds (lineOk l) (allLinesOk ls) a))
+  where
+    by : (t : Bool) → (t || hasId id ls) ≡ true → (hasId id ls ≡ true → lineOk (lineWith id ls) ≡ true) → lineOk (pick t l (lineWith id ls)) ≡ true
+    by true q ih = unfold pick in first-holds (lineOk l) (allLinesOk ls) a
+    by false q ih = unfold pick in ih q
+
+lines-ok : (text : List ℕ) → tableOk text ≡ true → allLinesOk (linesOf text) ≡ true
+unfolding tableOk
+lines-ok text e =
+    second-holds (endsInLf text && leb 1 (length (linesOf text)) && leb (length (linesOf text)) 64) (allLinesOk (linesOf text))
+    (first-holds (endsInLf text && leb 1 (length (linesOf text)) && leb (length (linesOf text)) 64 && allLinesOk (linesOf text)) (idsOnce (linesOf text)) e)
+
+module _ (text : List ℕ) (id : ℕ) where
+  pub found-bad : tableOk text ≡ false → foundIn text id ≡ refused 15
+  unfolding foundIn
+  found-bad f = pick-false (tableOk text) _ _ f
+
+  pub found-none : tableOk text ≡ true → (found : Bool) (at stop : ℕ) → Sought id text found at stop → found ≡ false → foundIn text id ≡ refused 16
+  unfolding foundIn
+  found-none t found at stop s f =
+      pick-true (tableOk text) _ _ t ∙ pick-false (hasId id (linesOf text)) _ _ (sym (s .has) ∙ f)
+
+  pub found-here : tableOk text ≡ true → (found : Bool) (at stop : ℕ) → Sought id text found at stop → found ≡ true
+      → (ok : Bool) (name : ℕ) (d : Device) → LineRead (take (stop - at) (drop at text)) ok name d
+      → record { number = 0; device = d; «name_at» = at; «name_len» = name } ≡ foundIn text id
+  unfolding foundIn given
+  found-here t found at stop s y ok name d l =
+      let has : hasId id (linesOf text) ≡ true = sym (s .has) ∙ y in
+      let sound : lineOk (lineWith id (linesOf text)) ≡ true = line-with-ok id (linesOf text) (lines-ok text t) has in
+      let fine : ok ≡ true = l .test ∙ (ap lineOk (s .line y) ∙ sound) in
+      let dev : d ≡ deviceOf (lineWith id (linesOf text)) = l .device fine ∙ ap deviceOf (s .line y) in
+      let nam : name ≡ length (field 0 (lineWith id (linesOf text))) = l .named fine ∙ ap (λ x. length (field 0 x)) (s .line y) in
+      let start : at ≡ startOf id (linesOf text) = s .start y in
+      (λ i. record { number = 0; device = dev i; «name_at» = start i; «name_len» = nam i })
+      ∙ sym (pick-true (tableOk text) _ _ t ∙ pick-true (hasId id (linesOf text)) _ _ has)
+
+-- the device of a sound line keeps the rules of a record
+line-device : (line : List ℕ) → lineOk line ≡ true → deviceOk (deviceOf line) ≡ true
+unfolding lineOk
+line-device line e =
+    second-holds
+    (eqb (length (split tab line)) 6 && nameOk (field 0 line) && hexOk (field 1 line) && isDecimal (field 2 line) && isDecimal (field 3 line) && hexOk (field 4 line) && hexOk (field 5 line))
+    (deviceOk (deviceOf line)) e
+
+-- and so does each record that is found
+pub found-sound : (text : List ℕ) (id : ℕ) → tableOk text ≡ true → hasId id (linesOf text) ≡ true → deviceOk (foundIn text id .device) ≡ true
+unfolding foundIn
+found-sound text id t has =
+    let same : foundIn text id ≡ given (startOf id (linesOf text)) (lineWith id (linesOf text)) = pick-true (tableOk text) _ _ t ∙ pick-true (hasId id (linesOf text)) _ _ has in
+    ap (λ x. deviceOk (x .device)) same
+    ∙ (unfold given in line-device (lineWith id (linesOf text)) (line-with-ok id (linesOf text) (lines-ok text t) has))
+
+-- ---- one turn of the table's test, by what the code's parts answer
+
+-- the rest of a text, as the code cuts it
+rest-of : (text : List ℕ) (k : ℕ) → take (length text - k) (drop k text) ≡ drop k text
+rest-of text k = take-all (length text - k) (drop k text) (rw length-drop (omega arith))
+
+module _ (n : ℕ) (text : List ℕ) (from r : ℕ) (e : r ≡ from + indexOf lf (slice from (length text) text)) (within : from < length text) (h : r < length text)
+    (ok : Bool) (name : ℕ) (d : Device) (l : LineRead (take (r - from) (drop from text)) ok name d) where
+  pub turn-bad : ok ≡ false → leftOk n (drop from text) ≡ false
+  turn-bad f = left-bad-line n text from r e within h (sym (l .test) ∙ f)
+
+  module _ (y : ok ≡ true) (found : Bool) (at stop : ℕ) (s : Sought (d .id) (take (length text - (r + 1)) (drop (r + 1) text)) found at stop) where
+    id-is : d .id ≡ idOf (take (r - from) (drop from text))
+    id-is = ap (λ x. x .id) (l .device y) ∙ (unfold idOf deviceOf in refl)
+
+    has-is : found ≡ hasId (idOf (take (r - from) (drop from text))) (linesOf (drop (r + 1) text))
+    has-is = s .has ∙ (ap (λ x. hasId (d .id) (linesOf x)) (rest-of text (r + 1)) ∙ ap (λ x. hasId x (linesOf (drop (r + 1) text))) id-is)
+
+    pub turn-twice : found ≡ true → leftOk n (drop from text) ≡ false
+    turn-twice t = left-twice n text from r e within h (sym has-is ∙ t)
+
+    pub turn-on : found ≡ false → leftOk n (drop from text) ≡ leftOk (n + 1) (drop (r + 1) text)
+    turn-on f = left-on n text from r e within h (sym (l .test) ∙ y) (sym has-is ∙ f)

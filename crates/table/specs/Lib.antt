@@ -1,0 +1,4 @@
+-- The device table, and its laws in the modules whose names begin with Laws.
+pub mod Table
+pub mod LawsLine
+pub mod LawsTable

@@ -1,0 +1,140 @@
+-- The device table ('The device table'; refusals 15 and 16). Text is a list of bytes.
+use Prim.Native.Nat.{ℕ, _+_}
+use mathlib.Core.Bool.{Bool, true, false, _&&_, _||_, not}
+use mathlib.Core.List.{List, [], _∷_}
+use lib.Dec.{ltb, leb, eqb}
+use lib.ListN.{length, getD}
+use Rattle.words.specs.Choice.{pick}
+use Rattle.numerals.specs.Text.{tab, lf, split}
+use Rattle.numerals.specs.Hex.{within, capitalOf, wordBy}
+use Rattle.numerals.specs.Decimal.{isDecimal, valueOf}
+use Rattle.device.specs.declared.Device.{Device}
+use Rattle.table.specs.declared.Found.{Found}
+use Rattle.device.specs.Record.{deviceOk}
+
+-- ---- lines
+
+-- all pieces but the last
+unfoldable pub butLast : List (List ℕ) → List (List ℕ)
+butLast [] = []
+butLast (p ∷ []) = []
+butLast (p ∷ q ∷ ps) = p ∷ butLast (q ∷ ps)
+
+-- the last piece
+unfoldable pub lastOf : List (List ℕ) → List ℕ
+lastOf [] = []
+lastOf (p ∷ []) = p
+lastOf (p ∷ q ∷ ps) = lastOf (q ∷ ps)
+
+-- ---- a line
+
+-- field k of a line, the first is 0; nothing where the line has fewer fields
+unfoldable pub field : ℕ → List ℕ → List ℕ
+field k line = getD (split tab line) k []
+
+-- every character is from 20h to 7Eh
+unfoldable pub allPrintable : List ℕ → Bool
+allPrintable [] = true
+allPrintable (c ∷ l) = within 0x20 0x7e c && allPrintable l
+
+-- a name: 1 to 16 characters, 20h to 7Eh
+unfoldable pub nameOk : List ℕ → Bool
+nameOk f = leb 1 (length f) && leb (length f) 16 && allPrintable f
+
+-- the number of a field of four capital hex digits; 65,536 if it is no such field
+unfoldable pub hexField : List ℕ → ℕ
+hexField f = pick (eqb (length f) 4) (wordBy capitalOf f 0) 65536
+
+unfoldable pub hexOk : List ℕ → Bool
+hexOk f = ltb (hexField f) 65536
+
+-- a line's fields: name, ID, program words, row words, mask 1, mask 2
+unfoldable pub deviceOf : List ℕ → Device
+deviceOf line =
+    record {
+      id = hexField (field 1 line);
+      words = valueOf (field 2 line);
+      row = valueOf (field 3 line);
+      mask1 = hexField (field 4 line);
+      mask2 = hexField (field 5 line);
+    }
+
+-- six fields, each of its kind, and a device that keeps the rules of a record
+unfoldable pub lineOk : List ℕ → Bool
+lineOk line =
+    eqb (length (split tab line)) 6
+    && nameOk (field 0 line)
+    && hexOk (field 1 line)
+    && isDecimal (field 2 line)
+    && isDecimal (field 3 line)
+    && hexOk (field 4 line)
+    && hexOk (field 5 line)
+    && deviceOk (deviceOf line)
+
+-- the ID that a line gives
+unfoldable pub idOf : List ℕ → ℕ
+idOf line = hexField (field 1 line)
+
+-- ---- the table
+
+-- the lines of a text, each without the LF that ends it
+unfoldable pub linesOf : List ℕ → List (List ℕ)
+linesOf text = butLast (split lf text)
+
+-- each line ends in LF: nothing follows the last one
+unfoldable pub endsInLf : List ℕ → Bool
+endsInLf text = eqb (length (lastOf (split lf text))) 0
+
+unfoldable pub allLinesOk : List (List ℕ) → Bool
+allLinesOk [] = true
+allLinesOk (l ∷ ls) = lineOk l && allLinesOk ls
+
+-- one of the lines gives this ID
+unfoldable pub hasId : ℕ → List (List ℕ) → Bool
+hasId id [] = false
+hasId id (l ∷ ls) = eqb (idOf l) id || hasId id ls
+
+-- no ID twice
+unfoldable pub idsOnce : List (List ℕ) → Bool
+idsOnce [] = true
+idsOnce (l ∷ ls) = not (hasId (idOf l) ls) && idsOnce ls
+
+-- each line ends in LF, 1 to 64 lines, each a device's, no ID twice
+unfoldable pub tableOk : List ℕ → Bool
+tableOk text =
+    endsInLf text
+    && leb 1 (length (linesOf text))
+    && leb (length (linesOf text)) 64
+    && allLinesOk (linesOf text)
+    && idsOnce (linesOf text)
+
+-- what the call that judges a table answers
+unfoldable pub tableNumber : List ℕ → ℕ
+tableNumber text = pick (tableOk text) 0 15
+
+-- ---- the record of an ID
+
+-- the first line that gives the ID
+unfoldable pub lineWith : ℕ → List (List ℕ) → List ℕ
+lineWith id [] = []
+lineWith id (l ∷ ls) = pick (eqb (idOf l) id) l (lineWith id ls)
+
+-- where that line begins: after each line before it and its LF
+unfoldable pub startOf : ℕ → List (List ℕ) → ℕ
+startOf id [] = 0
+startOf id (l ∷ ls) = pick (eqb (idOf l) id) 0 (length l + 1 + startOf id ls)
+
+-- a refusal names nothing else
+unfoldable pub refused : ℕ → Found
+refused n = record { number = n; device = record { id = 0; words = 0; row = 0; mask1 = 0; mask2 = 0 }; «name_at» = 0; «name_len» = 0 }
+
+-- the record that a line gives, and the place of its name in the text
+unfoldable pub given : (at : ℕ) → List ℕ → Found
+given at line = record { number = 0; device = deviceOf line; «name_at» = at; «name_len» = length (field 0 line) }
+
+-- what the call that finds an ID's record answers
+unfoldable pub foundIn : List ℕ → ℕ → Found
+foundIn text id =
+    pick (tableOk text)
+    (pick (hasId id (linesOf text)) (given (startOf id (linesOf text)) (lineWith id (linesOf text))) (refused 16))
+    (refused 15)
