@@ -105,6 +105,10 @@ module _ (d : Device) where
   unfolding recordNumber
   judged-good r = sym (pick-true (deviceOk d) 0 13 (keeps r))
 
+  -- so 13 tells that a rule is broken
+  pub broken-of-13 : recordNumber d ≡ 13 → Rules d → ⊥
+  broken-of-13 e r = let z : _≡_ {A = ℕ} 0 13 = judged-good r ∙ e in omega arith
+
   -- the tests of the code, one by one
   pub judged-all : rowOk (d .row) ≡ true → wordsOk (d .words) (d .row) ≡ true → d .id < 0x4000 → d .mask1 < 0x4000 → d .mask2 < 0x4000 → bit (d .mask1) 7 ≡ 1 → 0 ≡ recordNumber d
   unfolding recordNumber deviceOk pick

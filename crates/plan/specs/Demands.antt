@@ -22,9 +22,9 @@ unfoldable pub programmed : Device → (image reading first : List ℕ) → List
 programmed d image reading first = build (length first) (λ i. pick (programmable d i) (wanted image reading i) (getD first i 0))
 
 -- from whatever any number of cut runs leave, no run at all among them, a run that may take all steps is not refused,
--- completes them all, and leaves just these cells
+-- completes them all, and leaves just these cells, whatever buffers each of the runs has for words read
 pub record Recovers (d : Device) (stream first last : List ℕ) : Type 0 where
-  pub recovers : (words c : List ℕ) → CutRuns d stream words first c → (n : ℕ) → length stream / 3 ≤ n
+  pub recovers : (words c : List ℕ) → CutRuns d stream first c → (n : ℕ) → length stream / 3 ≤ n
       → (ran d stream n c words .number ≡ 0) × (ran d stream n c words .done ≡ length stream / 3) × (ran d stream n c words .target .cells ≡ last)
 
 -- what a read-back answers of the cells: the reading, with program words 0 while protected

@@ -53,7 +53,7 @@ pub recovers-to : (d : Device) (I : List ℕ → Type 0) (A B : Board → Type 0
 recovers-to d I A B s first last ok f safe enter sound ends i =
     record {
       recovers = λ words c k n h.
-          let ic : I c = cut-runs d words I A B s safe enter f first c i k in
+          let ic : I c = cut-runs d I A B s safe enter f first c i k in
           let e = whole words c ic n h in
           (ap (λ z. z .number) e, ap (λ z. z .done) e ∙ sym steps, ap (λ z. z .target .cells) e ∙ ends _ (safe .ends (boardOf (chipOf d) .entry c) (enter c ic)));
     }

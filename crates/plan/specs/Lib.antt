@@ -21,3 +21,4 @@ pub mod LawsUpdate
 pub mod LawsFresh
 pub mod LawsReadBack
 pub mod LawsDemands
+pub mod LawsCalls

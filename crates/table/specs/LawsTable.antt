@@ -148,6 +148,10 @@ module _ (text : List ℕ) where
   unfolding tableNumber
   table-good t = sym (pick-true (tableOk text) 0 15 t)
 
+  -- a last line without its LF
+  pub table-unended : endsInLf text ≡ false → 15 ≡ tableNumber text
+  table-unended f = table-bad (unfold tableOk in rw f)
+
   pub good-of-number : tableNumber text ≡ 0 → tableOk text ≡ true
   unfolding tableNumber pick
   good-of-number e = by (tableOk text) e
@@ -348,3 +352,7 @@ module _ (n : ℕ) (text : List ℕ) (from r : ℕ) (e : r ≡ from + indexOf lf
 
     pub turn-on : found ≡ false → leftOk n (drop from text) ≡ leftOk (n + 1) (drop (r + 1) text)
     turn-on f = left-on n text from r e within h (sym (l .test) ∙ y) (sym has-is ∙ f)
+
+-- a table without a line
+pub table-empty : 15 ≡ tableNumber []
+table-empty = table-bad [] (unfold tableOk endsInLf lastOf linesOf butLast split in refl)

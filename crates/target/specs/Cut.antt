@@ -22,7 +22,7 @@ pub record CutRun (d : Device) (stream words first cells : List ℕ) : Type 0 wh
   pub inside : at < length stream / 3
   pub torn : Torn (cellsAt d stream words first at) (cellsAt d stream words first (suc at)) cells
 
--- any number of cut runs, one after another, each from entry and from the stream's start
-pub data CutRuns (d : Device) (stream words first : List ℕ) : List ℕ → Type 0 where
-  none : CutRuns d stream words first first
-  again : {c e : List ℕ} → CutRuns d stream words first c → CutRun d stream words c e → CutRuns d stream words first e
+-- any number of cut runs, one after another, each from entry and from the stream's start, and each with a buffer of its own for words read
+pub data CutRuns (d : Device) (stream first : List ℕ) : List ℕ → Type 0 where
+  none : CutRuns d stream first first
+  again : {c e : List ℕ} (words : List ℕ) → CutRuns d stream first c → CutRun d stream words c e → CutRuns d stream first e

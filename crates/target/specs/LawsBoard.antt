@@ -280,9 +280,9 @@ module _ (d : Device) (words first : List ℕ) where
         torn = subst (λ z. Torn (runs (boardOf (chipOf d)) (v .front) entry .cells) z c) (after-it ∙ ap (λ b. b .cells) last) (subst (λ z. Torn z (cellsAt d (bytesOf s) words first (suc (k .at))) c) before (k .torn))
 
 -- any number of cut runs of a safe stream stay in the invariant
-pub cut-runs : (d : Device) (words : List ℕ) (I : List ℕ → Type 0) (A B : Board → Type 0) (s : List Order) → Safe (boardOf (chipOf d)) I A s B
-    → ((c : List ℕ) → I c → A (boardOf (chipOf d) .entry c)) → FitsAll s → (first c : List ℕ) → I first → CutRuns d (bytesOf s) words first c → I c
-cut-runs d words I A B s safe enters f first c i none = i
-cut-runs d words I A B s safe enters f first c i (again {c = b} {e = e} k h) =
-    let ib : I b = cut-runs d words I A B s safe enters f first b i k in
+pub cut-runs : (d : Device) (I : List ℕ → Type 0) (A B : Board → Type 0) (s : List Order) → Safe (boardOf (chipOf d)) I A s B
+    → ((c : List ℕ) → I c → A (boardOf (chipOf d) .entry c)) → FitsAll s → (first c : List ℕ) → I first → CutRuns d (bytesOf s) first c → I c
+cut-runs d I A B s safe enters f first c i none = i
+cut-runs d I A B s safe enters f first c i (again {c = b} {e = e} words k h) =
+    let ib : I b = cut-runs d I A B s safe enters f first b i k in
     safe .cuts (boardOf (chipOf d) .entry b) (enters b ib) e (cut-run d words b s f (safe .goes (boardOf (chipOf d) .entry b) (enters b ib)) e h)

@@ -9,6 +9,7 @@ use Rattle.words.specs.Choice.{pick}
 use Rattle.words.specs.Address.{placed, doubled, halved, entryOf, addressOf, placeOf, successor}
 use Rattle.words.specs.declared.WordAddress.{WordAddress}
 use Rattle.words.specs.declared.ByteAddress.{ByteAddress}
+use Rattle.words.specs.declared.Place.{Place}
 use Rattle.words.specs.declared.Place.the-variants.{At, Nowhere}
 
 -- ---- doubling and halving
@@ -45,6 +46,24 @@ halved-far b h = by (ℕ-discrete (b .0 % 2) 0)
 pub halved-even : (b : ByteAddress) → b .0 % 2 ≡ 0 → halved b ≡ placed (b .0 / 2)
 unfolding halved pick
 halved-even b e = rw (eq-eqb (b .0 % 2) 0 e)
+
+-- what a place tells: its address and one, or nothing
+told : Place → ℕ
+told (At a) = a .0 + 1
+told Nowhere = 0
+
+-- a byte address that leads to a word is that word's own
+pub doubled-of-halved : (b : ByteAddress) (a : WordAddress) → halved b ≡ At a → b ≡ doubled a
+unfolding doubled told
+doubled-of-halved b a e = by (ℕ-discrete (b .0 % 2) 0) (decLt (b .0 / 2) 0x10000)
+  where
+    by : Dec (b .0 % 2 ≡ 0) → Dec (b .0 / 2 < 0x10000) → b ≡ record { 0 = 2 * a .0 }
+    by (yes p) (yes q) =
+        let is : b .0 / 2 + 1 ≡ a .0 + 1 = sym (ap told (halved-even b p ∙ placed-at (b .0 / 2) q)) ∙ ap told e in
+        let same : b .0 ≡ 2 * a .0 = omega arith in
+        λ i. record { 0 = same i }
+    by (yes p) (no q) = absurd (let z : 0 ≡ a .0 + 1 = sym (ap told (halved-even b p ∙ placed-nowhere (b .0 / 2) (omega arith))) ∙ ap told e in omega arith)
+    by (no p) q = absurd (let z : 0 ≡ a .0 + 1 = sym (ap told (halved-odd b p)) ∙ ap told e in omega arith)
 
 -- ---- entries
 

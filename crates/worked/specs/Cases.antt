@@ -10,6 +10,7 @@ use Rattle.device.specs.declared.Device.{Device}
 use Rattle.hexread.specs.Reader.{readOf}
 use Rattle.judge.specs.Checksum.{checksumOf}
 use Rattle.plan.specs.Steps.{updateSteps}
+use Rattle.plan.specs.Answers.{updateNumber}
 use Rattle.target.specs.Run.{ran}
 use Rattle.target.specs.Stream.{bytesOf}
 use Rattle.target.specs.declared.Order.{Order}
@@ -25,6 +26,10 @@ blankTiny = set (set (replicate 25 erased) 21 0x2000) 22 0x2a00
 
 abbrev pub noImage : List ℕ
 noImage = replicate 25 notGiven
+
+-- a lent image with other content before
+abbrev pub lent : List ℕ
+lent = replicate 25 0x1111
 
 -- the lines of the worked HEX texts, each with its LF
 abbrev pub endLine : List ℕ
@@ -47,19 +52,21 @@ same (a ∷ l) (b ∷ m) = eqb a b && same l m
 
 -- ---- the cases
 
+-- a text gives just this image, whatever was lent
+unfoldable pub gives : (text image : List ℕ) → Bool
+gives text image = eqb (readOf tiny text lent .number) 0 && same (readOf tiny text lent .image) image
+
 -- the end record alone gives an empty image; the empty text gives 10
 unfoldable pub endAlone : Bool
-endAlone = eqb (readOf tiny endLine noImage .number) 0 && same (readOf tiny endLine noImage .image) noImage && eqb (readOf tiny [] noImage .number) 10
+endAlone = gives endLine noImage && eqb (readOf tiny [] lent .number) 10 && same (readOf tiny [] lent .image) noImage
 
 -- word 0000h is 3400h
 unfoldable pub wordZero : Bool
-wordZero = eqb (readOf tiny (word0Line ++ endLine) noImage .number) 0 && eqb (getD (readOf tiny (word0Line ++ endLine) noImage .image) 0 0) 0x3400
+wordZero = gives (word0Line ++ endLine) (set noImage 0 0x3400)
 
 -- 8007h is 3F7Fh
 unfoldable pub configOne : Bool
-configOne =
-    eqb (readOf tiny (upperLine ++ (configLine ++ endLine)) noImage .number) 0
-    && eqb (getD (readOf tiny (upperLine ++ (configLine ++ endLine)) noImage .image) 23 0) 0x3f7f
+configOne = gives (upperLine ++ (configLine ++ endLine)) (set noImage 23 0x3f7f)
 
 -- a protected board with user IDs 000Eh, 0008h, 0005h, 0008h, 8007h = 3F7Fh and 8008h = 3FFFh: 66CAh
 abbrev pub protectedBoard : List ℕ
@@ -72,9 +79,13 @@ protectedSum = eqb (checksumOf tiny protectedBoard) 0x66ca
 unfoldable pub blankSum : Bool
 blankSum = eqb (checksumOf tiny blankTiny) 0x7ee2
 
+-- an update of a blank board that is not refused and takes so many steps
+unfoldable pub takes : (image : List ℕ) → ℕ → Bool
+takes image n = eqb (updateNumber tiny image blankTiny) 0 && eqb (length (updateSteps tiny image blankTiny)) n
+
 -- only row 0 changes: 18 steps; only row 1: 26
 unfoldable pub oneRow : Bool
-oneRow = eqb (length (updateSteps tiny (set noImage 3 0x1234) blankTiny)) 18 && eqb (length (updateSteps tiny (set noImage 11 0x1234) blankTiny)) 26
+oneRow = takes (set noImage 3 0x1234) 18 && takes (set noImage 11 0x1234) 26
 
 -- eight loads at 0002h to 0009h and Begin at 0009h write 0008h to 000Fh
 unfoldable pub loadsFrom : ℕ → ℕ → List Order

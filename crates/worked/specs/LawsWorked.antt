@@ -15,6 +15,8 @@ use Rattle.hexread.specs.Reader.{wordOf, byteAddress, entryAt, entryOfWord, can
 use Rattle.hexread.specs.Reader
 use Rattle.judge.specs.Checksum.{sumTo, configSum, nibbles, checksumOf}
 use Rattle.plan.specs.Wanted.{known, wanted, differs, some, rowDiffers, idDiffers, updateWrites}
+use Rattle.plan.specs.Answers.{otherId, configOk, updateNumber}
+use Rattle.plan.specs.Answers
 use Rattle.plan.specs.Steps.{walk, loads, erasing, rowSteps, rowsFrom, wordSteps, writesFrom, configSteps, updateSteps}
 use Rattle.target.specs.Chip.{chipOf}
 use Rattle.target.specs.Effects.{counterAfter, blank, latchesAfter, protected, edit, inProgram, idCell, configCell, atErase, rowErased, bulkErased, written, latchOf, burnt, cellsAfter, wordRead, registersAfter, entered}
@@ -22,18 +24,18 @@ use Rattle.target.specs.Step.{loadOk, load, plain, decoded, orderNumber, wordsA
 use Rattle.target.specs.Run.{stepAt, turn, after, ranOn, runRefusal, ran}
 use Rattle.target.specs.Run
 use Rattle.target.specs.Stream.{codeOf, payloadOf, stepBytes, bytesOf}
-use Rattle.worked.specs.Cases.{same, endAlone, wordZero, configOne, protectedSum, blankSum, oneRow, loadsFrom, acrossRows, cases, allHold}
+use Rattle.worked.specs.Cases.{same, gives, takes, endAlone, wordZero, configOne, protectedSum, blankSum, oneRow, loadsFrom, acrossRows, cases, allHold}
 
 end-alone : endAlone ≡ true
-unfolding endAlone same pick isWord every within digitOf joined byteBy split inFront placed halved entryOf inRange rowOk wordsOk deviceOk bit withoutCr allWithoutCr linesOf byteAt countOf offsetOf typeOf isRecord bytesTo sumOk typeOk shapeOk dataOk lineNumber wordOf byteAddress entryAt entryOfWord canGive wordNumber giveWords recordStep lineRefused lineStep blankImage refusedAt readLines Reader.begun readOf
+unfolding endAlone gives same pick isWord every within digitOf joined byteBy split inFront placed halved entryOf inRange rowOk wordsOk deviceOk bit withoutCr allWithoutCr linesOf byteAt countOf offsetOf typeOf isRecord bytesTo sumOk typeOk shapeOk dataOk lineNumber wordOf byteAddress entryAt entryOfWord canGive wordNumber giveWords recordStep lineRefused lineStep blankImage refusedAt readLines Reader.begun readOf
 end-alone = refl
 
 word-zero : wordZero ≡ true
-unfolding wordZero pick isWord every within digitOf joined byteBy split inFront placed halved entryOf inRange rowOk wordsOk deviceOk bit withoutCr allWithoutCr linesOf byteAt countOf offsetOf typeOf isRecord bytesTo sumOk typeOk shapeOk dataOk lineNumber wordOf byteAddress entryAt entryOfWord canGive wordNumber giveWords recordStep lineRefused lineStep blankImage refusedAt readLines Reader.begun readOf
+unfolding wordZero gives same pick isWord every within digitOf joined byteBy split inFront placed halved entryOf inRange rowOk wordsOk deviceOk bit withoutCr allWithoutCr linesOf byteAt countOf offsetOf typeOf isRecord bytesTo sumOk typeOk shapeOk dataOk lineNumber wordOf byteAddress entryAt entryOfWord canGive wordNumber giveWords recordStep lineRefused lineStep blankImage refusedAt readLines Reader.begun readOf
 word-zero = refl
 
 config-one : configOne ≡ true
-unfolding configOne pick isWord every within digitOf joined byteBy split inFront placed halved entryOf inRange rowOk wordsOk deviceOk bit withoutCr allWithoutCr linesOf byteAt countOf offsetOf typeOf isRecord bytesTo sumOk typeOk shapeOk dataOk lineNumber wordOf byteAddress entryAt entryOfWord canGive wordNumber giveWords recordStep lineRefused lineStep blankImage refusedAt readLines Reader.begun readOf
+unfolding configOne gives same pick isWord every within digitOf joined byteBy split inFront placed halved entryOf inRange rowOk wordsOk deviceOk bit withoutCr allWithoutCr linesOf byteAt countOf offsetOf typeOf isRecord bytesTo sumOk typeOk shapeOk dataOk lineNumber wordOf byteAddress entryAt entryOfWord canGive wordNumber giveWords recordStep lineRefused lineStep blankImage refusedAt readLines Reader.begun readOf
 config-one = refl
 
 protected-sum : protectedSum ≡ true
@@ -45,7 +47,7 @@ unfolding blankSum pick bit Memory.protected sumTo configSum nibbles checksumOf
 blank-sum = refl
 
 one-row : oneRow ≡ true
-unfolding oneRow pick known wanted differs some rowDiffers idDiffers updateWrites inRange walk loads erasing rowSteps rowsFrom wordSteps writesFrom configSteps updateSteps
+unfolding oneRow takes pick isWord bit every wordsOf rowOk wordsOk deviceOk Memory.entryOk Memory.imageOk Memory.readingOk Memory.protected otherId Answers.canWrite configOk updateNumber known wanted differs some rowDiffers idDiffers updateWrites inRange walk loads erasing rowSteps rowsFrom wordSteps writesFrom configSteps updateSteps
 one-row = refl
 
 across-rows : acrossRows ≡ true

@@ -1,0 +1,51 @@
+-- The paper's 'Errors that look right', each as a stream or as cells that such an error would give, on TINY.
+use Prim.Native.Nat.{ℕ, _+_, _/_}
+use mathlib.Core.Bool.{true}
+use mathlib.Core.List.{List, [], _∷_, _++_}
+use lib.ListN.{set, replicate}
+use Rattle.words.specs.Word.{erased}
+use Rattle.device.specs.declared.Device.{Device}
+use Rattle.plan.specs.Wanted.{wanted, rowDiffers, idDiffers, updateWrites}
+use Rattle.plan.specs.Steps.{rowsFrom, configSteps}
+use Rattle.target.specs.declared.Order.{Order}
+use Rattle.target.specs.declared.Order.the-variants.{ResetAddress, Increment}
+use Rattle.worked.specs.Cases.{blankTiny, noImage, loadsFrom}
+
+-- the cells of a board, calibration words 3FFFh
+abbrev pub cellsOf : (reading : List ℕ) → List ℕ
+cellsOf reading = reading ++ (erased ∷ erased ∷ [])
+
+-- ---- writing 3FFFh, in an update, where the file is silent
+
+-- the rows that an update writes, with 3FFFh for each word that is not given
+unfoldable pub blankWhereSilent : Device → (image reading : List ℕ) → List Order
+blankWhereSilent d image reading = ResetAddress ∷ rowsFrom true (wanted image []) (rowDiffers d image reading) (d .row) (d .words / d .row) 0 0
+
+-- word 0003h is given, and the board has 0123h at 0002h
+abbrev pub silentImage : List ℕ
+silentImage = set noImage 3 0x1234
+
+abbrev pub silentBoard : List ℕ
+silentBoard = set blankTiny 2 0x0123
+
+-- ---- setting CP before the last program row is written
+
+-- an update's segments, those of configuration space first
+unfoldable pub configFirst : Device → (image reading : List ℕ) → List Order
+configFirst d image reading =
+    configSteps (idDiffers d image reading) (λ k. wanted image reading (d .words + k)) (updateWrites d image reading)
+    ++ (ResetAddress ∷ rowsFrom true (wanted image reading) (rowDiffers d image reading) (d .row) (d .words / d .row) 0 0)
+
+-- word 0003h is given, and 8007h with CP = 0
+abbrev pub protectingImage : List ℕ
+protectingImage = set (set noImage 3 0x1234) 23 0x3f7f
+
+-- ---- taking the row from the first loaded word and not from the counter at Begin
+
+-- loads at 0002h to 0009h, Begin at 0009h
+unfoldable pub acrossTwo : List Order
+acrossTwo = Increment ∷ Increment ∷ loadsFrom 0x102 8
+
+-- the row of the first loaded word written, from 0000h on
+abbrev pub firstRowWritten : List ℕ
+firstRowWritten = 0x108 ∷ 0x109 ∷ 0x102 ∷ 0x103 ∷ 0x104 ∷ 0x105 ∷ 0x106 ∷ 0x107 ∷ (replicate 12 erased ++ (erased ∷ 0x2000 ∷ 0x2a00 ∷ erased ∷ erased ∷ erased ∷ erased ∷ []))
