@@ -17,7 +17,7 @@ pub fn answer(
     out: &mut [u8],
 ) -> usize {
     match name::place(
-        b"device.judge device.judge_table device.find_device device.is_image judge.checksum judge.verify sheet.read_sheet sheet.read_id sheet.write_sheet",
+        b"device.judge device.judge_table device.find_device device.is_image judge.checksum judge.verify sheet.read_sheet sheet.read_id sheet.write_sheet device.is_reading device.is_protected device.programmable device.id_fits",
         name,
     ) {
         0 => records::judge(line, at, out),
@@ -29,6 +29,10 @@ pub fn answer(
         6 => sheets::read_sheet(line, at, a, w, out),
         7 => sheets::read_id(line, at, a, out),
         8 => sheets::write_sheet(line, at, a, w, out),
+        9 => records::is_reading(line, at, w, out),
+        10 => records::is_protected(line, at, w, out),
+        11 => records::programmable(line, at, out),
+        12 => records::id_fits(line, at, out),
         _ => UNKNOWN,
     }
 }

@@ -1,4 +1,4 @@
-// Requests on device records, the device table and images.
+// Requests on device records, the device table, and the kinds of words and lists.
 use ask::fields;
 use ask::fields::NOWHERE;
 use ask::put;
@@ -42,4 +42,46 @@ pub(crate) fn is_image(line: &[u8], at: usize, w: &mut [u16], out: &mut [u8]) ->
     }
     let n = image.count;
     put::number(out, at, device::is_image(words.value, &w[..n]) as u64)
+}
+
+pub(crate) fn is_reading(line: &[u8], at: usize, w: &mut [u16], out: &mut [u8]) -> usize {
+    let words = fields::short(line, at);
+    let reading = fields::words(line, words.at, w);
+    if reading.at != line.len() {
+        return NOWHERE;
+    }
+    let n = reading.count;
+    put::number(out, at, device::is_reading(words.value, &w[..n]) as u64)
+}
+
+pub(crate) fn is_protected(line: &[u8], at: usize, w: &mut [u16], out: &mut [u8]) -> usize {
+    let words = fields::short(line, at);
+    let list = fields::words(line, words.at, w);
+    if list.at != line.len() {
+        return NOWHERE;
+    }
+    let n = list.count;
+    put::number(out, at, device::is_protected(words.value, &w[..n]) as u64)
+}
+
+pub(crate) fn programmable(line: &[u8], at: usize, out: &mut [u8]) -> usize {
+    let words = fields::short(line, at);
+    let i = fields::number(line, words.at);
+    if i.at != line.len() {
+        return NOWHERE;
+    }
+    put::number(
+        out,
+        at,
+        device::programmable(words.value, i.value as usize) as u64,
+    )
+}
+
+pub(crate) fn id_fits(line: &[u8], at: usize, out: &mut [u8]) -> usize {
+    let d = fields::device(line, at);
+    let word = fields::short(line, d.at);
+    if word.at != line.len() {
+        return NOWHERE;
+    }
+    put::number(out, at, device::id_fits(d.device, word.value) as u64)
 }

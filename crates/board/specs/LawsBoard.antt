@@ -13,34 +13,34 @@ use borrow.Author.Tests.{eq-eqb, ne-eqb}
 use Rattle.words.specs.Choice.{pick}
 use Rattle.words.specs.LawsChoice.{pick-true, pick-false}
 use Rattle.device.specs.declared.Device.{Device}
-use Rattle.device.specs.Record.{deviceOk}
-use Rattle.device.specs.Memory.{readingOk}
+use Rattle.device.specs.Record.{mostWords, deviceOk}
+use Rattle.device.specs.Memory.{readingTail, readingOk}
 use Rattle.device.specs.LawsRecord.{rules}
 use Rattle.sheet.specs.Sheet.{sheetOk, wordsIn, readNumber, readBuffer}
 use Rattle.sheet.specs.LawsSheet.{length-words, read-sound}
-use Rattle.board.specs.Open.{recordOf, recordNumber, boardNumber, readingOf, openedReading}
+use Rattle.board.specs.Open.{recordOf, openNumber, boardNumber, boardReading, openedReading}
 use Rattle.board.specs.LawsOpen.{opened-sound, read-number, sheet-words}
 
 -- the most words that a reading has
 abbrev pub mostReading : ℕ
-mostReading = 8201
+mostReading = mostWords + readingTail
 
 module _ (table sheet : List ℕ) where
   -- ---- the number
 
-  pub board-refused : (recordNumber table sheet ≡ 0 → ⊥) → boardNumber table sheet ≡ recordNumber table sheet
+  pub board-refused : (openNumber table sheet ≡ 0 → ⊥) → boardNumber table sheet ≡ openNumber table sheet
   unfolding boardNumber pick
-  board-refused n = rw (ne-eqb (recordNumber table sheet) 0 n)
+  board-refused n = rw (ne-eqb (openNumber table sheet) 0 n)
 
-  pub board-found : recordNumber table sheet ≡ 0 → boardNumber table sheet ≡ pick (sheetOk (recordOf table sheet) sheet) 0 14
+  pub board-found : openNumber table sheet ≡ 0 → boardNumber table sheet ≡ pick (sheetOk (recordOf table sheet) sheet) 0 14
   unfolding boardNumber pick
-  board-found z = rw (eq-eqb (recordNumber table sheet) 0 z)
+  board-found z = rw (eq-eqb (openNumber table sheet) 0 z)
 
   -- a board that is not refused has a record
-  record-there : boardNumber table sheet ≡ 0 → recordNumber table sheet ≡ 0
-  record-there z = by (ℕ-discrete (recordNumber table sheet) 0)
+  record-there : boardNumber table sheet ≡ 0 → openNumber table sheet ≡ 0
+  record-there z = by (ℕ-discrete (openNumber table sheet) 0)
     where
-      by : Dec (recordNumber table sheet ≡ 0) → recordNumber table sheet ≡ 0
+      by : Dec (openNumber table sheet ≡ 0) → openNumber table sheet ≡ 0
       by (yes e) = e
       by (no n) = sym (board-refused n) ∙ z
 
@@ -57,7 +57,7 @@ module _ (table sheet : List ℕ) where
 
   -- ---- what the code's parts come to
 
-  pub kept-refused : (number : ℕ) → number ≡ recordNumber table sheet → (number ≡ 0 → ⊥) → number ≡ boardNumber table sheet
+  pub kept-refused : (number : ℕ) → number ≡ openNumber table sheet → (number ≡ 0 → ⊥) → number ≡ boardNumber table sheet
   kept-refused number e n = e ∙ sym (board-refused (λ z. n (e ∙ z)))
 
   pub kept-buffer : (number : ℕ) → number ≡ boardNumber table sheet → (number ≡ 0 → ⊥) → (before : List ℕ) → before ≡ openedReading table sheet before
@@ -65,89 +65,100 @@ module _ (table sheet : List ℕ) where
   kept-buffer number e n before = sym (pick-false _ _ _ (ne-eqb (boardNumber table sheet) 0 (λ z. n (e ∙ z))))
 
   -- the sheet is read into the first words of the buffer
-  module _ (z : recordNumber table sheet ≡ 0) (d : Device) (is : d ≡ recordOf table sheet) (before : List ℕ) (long : length before ≡ mostReading) where
+  module _ (z : openNumber table sheet ≡ 0) (d : Device) (is : d ≡ recordOf table sheet) (before : List ℕ) (long : length before ≡ mostReading) where
     keeps : deviceOk d ≡ true
     keeps = ap deviceOk is ∙ opened-sound table sheet z
 
-    pub read-room : d .words + 9 ≤ length before
-    read-room = let most : d .words ≤ 8192 = rules d keeps .most in omega arith
+    pub read-room : d .words + readingTail ≤ length before
+    read-room = let most : d .words ≤ mostWords = rules d keeps .most in omega arith
 
-    front-long : length (take (d .words + 9) before) ≡ d .words + 9
-    front-long = length-take-le (d .words + 9) before read-room
+    front-long : length (take (d .words + readingTail) before) ≡ d .words + readingTail
+    front-long = length-take-le (d .words + readingTail) before read-room
 
-    module _ (number : ℕ) (e : number ≡ readNumber d sheet (take (d .words + 9) before)) where
+    module _ (number : ℕ) (e : number ≡ readNumber d sheet (take (d .words + readingTail) before)) where
       pub read-number-is : number ≡ boardNumber table sheet
       read-number-is =
-          read-number d keeps sheet (take (d .words + 9) before) front-long number e
+          read-number d keeps sheet (take (d .words + readingTail) before) front-long number e
           ∙ (ap (λ x. pick (sheetOk x sheet) 0 14) is ∙ sym (board-found z))
 
-      pub read-reading : (after : List ℕ) → after ≡ readBuffer d sheet (take (d .words + 9) before) ++ drop (d .words + 9) before → after ≡ openedReading table sheet before
+      pub read-reading : (after : List ℕ) → after ≡ readBuffer d sheet (take (d .words + readingTail) before) ++ drop (d .words + readingTail) before → after ≡ openedReading table sheet before
       read-reading after f = f ∙ by (ℕ-discrete number 0)
         where
           words : List ℕ
-          words = readBuffer d sheet (take (d .words + 9) before)
+          words = readBuffer d sheet (take (d .words + readingTail) before)
 
-          by : Dec (number ≡ 0) → words ++ drop (d .words + 9) before ≡ openedReading table sheet before
+          by : Dec (number ≡ 0) → words ++ drop (d .words + readingTail) before ≡ openedReading table sheet before
           by (yes y) =
-              let these : words ≡ wordsIn (d .words) sheet = sheet-words d keeps sheet (take (d .words + 9) before) front-long number e y words refl in
-              let count : length (wordsIn (d .words) sheet) ≡ d .words + 9 = length-words (d .words) sheet in
+              let these : words ≡ wordsIn (d .words) sheet = sheet-words d keeps sheet (take (d .words + readingTail) before) front-long number e y words refl in
+              let count : length (wordsIn (d .words) sheet) ≡ d .words + readingTail = length-words (d .words) sheet in
               let fits : 0 + length (wordsIn (d .words) sheet) ≤ length before = rw (zero-add, count) read-room in
-              let stored : sets before 0 (wordsIn (d .words) sheet) ≡ wordsIn (d .words) sheet ++ drop (0 + length (wordsIn (d .words) sheet)) before = sets-eq (wordsIn (d .words) sheet) before 0 fits in
-              ap (λ x. x ++ drop (d .words + 9) before) these
+              let stored : sets before 0 (wordsIn (d .words) sheet) ≡ wordsIn (d .words) sheet ++ drop (0 + length (wordsIn (d .words) sheet)) before = sets-eq
+              (wordsIn (d .words) sheet) before 0 fits in
+              ap (λ x. x ++ drop (d .words + readingTail) before) these
               ∙ (ap (λ n. wordsIn (d .words) sheet ++ drop n before) (sym (zero-add (length (wordsIn (d .words) sheet)) ∙ count))
               ∙ (sym stored
-              ∙ (unfold openedReading readingOf in ap (λ x. sets before 0 (wordsIn (x .words) sheet)) is ∙ sym (pick-true _ _ _ (eq-eqb (boardNumber table sheet) 0 (sym read-number-is ∙ y))))))
+              ∙ (unfold openedReading boardReading in ap (λ x. sets before 0 (wordsIn (x .words) sheet)) is ∙ sym (pick-true _ _ _ (eq-eqb (boardNumber table sheet) 0 (sym read-number-is ∙ y))))))
           by (no n) =
-              let stays : words ≡ take (d .words + 9) before = (unfold readBuffer in pick-false _ _ _ (ne-eqb (readNumber d sheet (take (d .words + 9) before)) 0 (λ y. n (e ∙ y)))) in
-              ap (λ x. x ++ drop (d .words + 9) before) stays ∙ (take-append-drop (d .words + 9) before ∙ kept-buffer number read-number-is n before)
+              let stays : words ≡ take (d .words + readingTail) before = (unfold readBuffer in pick-false _ _ _
+              (ne-eqb (readNumber d sheet (take (d .words + readingTail) before)) 0 (λ y. n (e ∙ y)))) in
+              ap (λ x. x ++ drop (d .words + readingTail) before) stays ∙ (take-append-drop (d .words + readingTail) before ∙ kept-buffer number read-number-is n before)
 
 -- ---- what a caller has of a board that is not refused, in a buffer of the most words
 
 pub record Board (table sheet : List ℕ) (d : Device) (reading : List ℕ) : Type 0 where
   pub record-is : d ≡ recordOf table sheet
   pub sound : deviceOk d ≡ true
-  pub most : d .words ≤ 8192
-  pub within : d .words + 9 ≤ length reading
-  pub long : length (take (d .words + 9) reading) ≡ d .words + 9
-  pub front : take (d .words + 9) reading ≡ readingOf table sheet
-  pub good : readingOk (d .words) (take (d .words + 9) reading) ≡ true
+  pub most : d .words ≤ mostWords
+  pub within : d .words + readingTail ≤ length reading
+  pub long : length (take (d .words + readingTail) reading) ≡ d .words + readingTail
+  pub front : take (d .words + readingTail) reading ≡ boardReading table sheet
+  pub good : readingOk (d .words) (take (d .words + readingTail) reading) ≡ true
 
 module _ (table sheet : List ℕ) (number : ℕ) (e : number ≡ boardNumber table sheet) where
-  module _ (z : number ≡ 0) (d : Device) (is : d ≡ recordOf table sheet) (before : List ℕ) (size : length before ≡ mostReading) (reading : List ℕ) (f : reading ≡ openedReading table sheet before) where
+  module _ (z : number ≡ 0) (d : Device) (is : d ≡ recordOf table sheet) (before : List ℕ) (size : length before ≡ mostReading) (reading : List ℕ)
+      (f : reading ≡ openedReading table sheet before) where
     zero-is : boardNumber table sheet ≡ 0
     zero-is = sym e ∙ z
 
     board-in : Board table sheet d reading
-    board-in = record { record-is = is; sound = keeps-rules; most = few; within = room; long = length-take-le (d .words + 9) reading room; front = same; good = ap (readingOk (d .words)) same ∙ words-good }
+    board-in = record {
+      record-is = is;
+      sound = keeps-rules;
+      most = few;
+      within = room;
+      long = length-take-le (d .words + readingTail) reading room;
+      front = same;
+      good = ap (readingOk (d .words)) same ∙ words-good;
+    }
       where
         keeps-rules : deviceOk d ≡ true
         keeps-rules = ap deviceOk is ∙ board-sound table sheet zero-is
 
-        few : d .words ≤ 8192
+        few : d .words ≤ mostWords
         few = rules d keeps-rules .most
 
-        stored : reading ≡ sets before 0 (readingOf table sheet)
+        stored : reading ≡ sets before 0 (boardReading table sheet)
         stored = f ∙ (unfold openedReading in pick-true _ _ _ (eq-eqb (boardNumber table sheet) 0 zero-is))
 
         stays : length reading ≡ mostReading
-        stays = ap length stored ∙ (length-sets before 0 (readingOf table sheet) ∙ size)
+        stays = ap length stored ∙ (length-sets before 0 (boardReading table sheet) ∙ size)
 
-        room : d .words + 9 ≤ length reading
+        room : d .words + readingTail ≤ length reading
         room = rw stays (omega (arith, few))
 
-        these : readingOf table sheet ≡ wordsIn (d .words) sheet
-        these = unfold readingOf in ap (λ x. wordsIn (x .words) sheet) (sym is)
+        these : boardReading table sheet ≡ wordsIn (d .words) sheet
+        these = unfold boardReading in ap (λ x. wordsIn (x .words) sheet) (sym is)
 
-        count : length (readingOf table sheet) ≡ d .words + 9
+        count : length (boardReading table sheet) ≡ d .words + readingTail
         count = ap length these ∙ length-words (d .words) sheet
 
-        placed : sets before 0 (readingOf table sheet) ≡ readingOf table sheet ++ drop (0 + length (readingOf table sheet)) before
-        placed = sets-eq (readingOf table sheet) before 0 (rw (zero-add, count, size) (omega (arith, few)))
+        placed : sets before 0 (boardReading table sheet) ≡ boardReading table sheet ++ drop (0 + length (boardReading table sheet)) before
+        placed = sets-eq (boardReading table sheet) before 0 (rw (zero-add, count, size) (omega (arith, few)))
 
-        same : take (d .words + 9) reading ≡ readingOf table sheet
-        same = ap (take (d .words + 9)) (stored ∙ placed) ∙ take-at (readingOf table sheet) _ (d .words + 9) count
+        same : take (d .words + readingTail) reading ≡ boardReading table sheet
+        same = ap (take (d .words + readingTail)) (stored ∙ placed) ∙ take-at (boardReading table sheet) _ (d .words + readingTail) count
 
-        words-good : readingOk (d .words) (readingOf table sheet) ≡ true
+        words-good : readingOk (d .words) (boardReading table sheet) ≡ true
         words-good = ap (readingOk (d .words)) these ∙ read-sound d sheet (ap (λ x. sheetOk x sheet) is ∙ sheet-there table sheet zero-is)
 
   -- ---- a text that begins with the board
@@ -167,8 +178,8 @@ board-opened table sheet number e z d is reading f = board-in table sheet number
 
 -- another local buffer of the most words has room for a reading too
 module _ (table sheet : List ℕ) (d : Device) (reading : List ℕ) (b : Board table sheet d reading) (v : ℕ) where
-  pub other-room : d .words + 9 ≤ length (replicate mostReading v)
-  other-room = let few : d .words ≤ 8192 = b .most in rw (length-replicate {A = ℕ} mostReading v) (omega arith)
+  pub other-room : d .words + readingTail ≤ length (replicate mostReading v)
+  other-room = let few : d .words ≤ mostWords = b .most in rw (length-replicate {A = ℕ} mostReading v) (omega arith)
 
-  pub other-long : length (take (d .words + 9) (replicate mostReading v)) ≡ d .words + 9
-  other-long = length-take-le (d .words + 9) (replicate mostReading v) other-room
+  pub other-long : length (take (d .words + readingTail) (replicate mostReading v)) ≡ d .words + readingTail
+  other-long = length-take-le (d .words + readingTail) (replicate mostReading v) other-room

@@ -10,20 +10,21 @@ use borrow.Author.Tests.{eq-eqb, ne-eqb}
 use Rattle.words.specs.Choice.{pick}
 use Rattle.device.specs.declared.Device.{Device}
 use Rattle.table.specs.declared.Found.{Found}
-use Rattle.device.specs.Record.{deviceOk}
-use Rattle.table.specs.Table.{tableOk, linesOf, hasId, refused, given, startOf, lineWith, foundIn}
+use Rattle.device.specs.Record.{mostWords, deviceOk}
+use Rattle.table.specs.Table.{tableOk, tableLines, hasId, refused, given, startOf, lineWith, foundIn}
 use Rattle.device.specs.LawsRecord.{rules}
+use Rattle.device.specs.Memory.{readingTail}
 use Rattle.table.specs.LawsTable.{found-sound}
 use Rattle.sheet.specs.declared.Line1.{Line1}
 use Rattle.sheet.specs.Sheet.{firstLine, sheetOk, wordsIn, readNumber, readBuffer}
-use Rattle.board.specs.Open.{recordOf, recordNumber}
+use Rattle.board.specs.Open.{recordOf, openNumber}
 
 -- the number of the search by itself
-found-number : (table : List ℕ) (id : ℕ) → foundIn table id .number ≡ pick (tableOk table) (pick (hasId id (linesOf table)) 0 16) 15
+found-number : (table : List ℕ) (id : ℕ) → foundIn table id .number ≡ pick (tableOk table) (pick (hasId id (tableLines table)) 0 16) 15
 unfolding foundIn
-found-number table id = by (tableOk table) (hasId id (linesOf table))
+found-number table id = by (tableOk table) (hasId id (tableLines table))
   where
-    by : (t h : Bool) → pick t (pick h (given (startOf id (linesOf table)) (lineWith id (linesOf table))) (refused 16)) (refused 15) .number ≡ pick t (pick h 0 16) 15
+    by : (t h : Bool) → pick t (pick h (given (startOf id (tableLines table)) (lineWith id (tableLines table))) (refused 16)) (refused 15) .number ≡ pick t (pick h 0 16) 15
     by true true = unfold pick given in refl
     by true false = unfold pick refused in refl
     by false h = unfold pick refused in refl
@@ -33,16 +34,16 @@ module _ (table sheet : List ℕ) (first : Line1) (found : Found) (e : first ≡
   same : found ≡ foundIn table (firstLine sheet .id)
   same = f ∙ ap (λ l. foundIn table (l .id)) e
 
-  number-is : found .number ≡ pick (tableOk table) (pick (hasId (firstLine sheet .id) (linesOf table)) 0 16) 15
+  number-is : found .number ≡ pick (tableOk table) (pick (hasId (firstLine sheet .id) (tableLines table)) 0 16) 15
   number-is = ap (λ x. x .number) same ∙ found-number table (firstLine sheet .id)
 
   pub opened-device : found .device ≡ recordOf table sheet
   unfolding recordOf
   opened-device = ap (λ x. x .device) same
 
-  pub opened-15 : found .number ≡ 15 → 15 ≡ recordNumber table sheet
-  unfolding recordNumber
-  opened-15 g = by (tableOk table) (hasId (firstLine sheet .id) (linesOf table)) (sym number-is ∙ g)
+  pub opened-15 : found .number ≡ 15 → 15 ≡ openNumber table sheet
+  unfolding openNumber
+  opened-15 g = by (tableOk table) (hasId (firstLine sheet .id) (tableLines table)) (sym number-is ∙ g)
     where
       by : (t h : Bool) → pick {A = ℕ} t (pick {A = ℕ} h 0 16) 15 ≡ 15 → 15 ≡ pick {A = ℕ} t (pick {A = ℕ} (eqb (firstLine sheet .number) 0) (pick {A = ℕ} h 0 16) 14) 15
       by true true q = absurd (unfold pick in omega (arith, q))
@@ -53,25 +54,25 @@ module _ (table sheet : List ℕ) (first : Line1) (found : Found) (e : first ≡
     table-sound : tableOk table ≡ true
     table-sound = by (tableOk table) number-is
       where
-        by : (t : Bool) → found .number ≡ pick t (pick (hasId (firstLine sheet .id) (linesOf table)) 0 16) 15 → t ≡ true
+        by : (t : Bool) → found .number ≡ pick t (pick (hasId (firstLine sheet .id) (tableLines table)) 0 16) 15 → t ≡ true
         by true q = refl
         by false q = absurd (sound (unfold pick in q))
 
-    pub opened-14 : (first .number ≡ 0 → ⊥) → 14 ≡ recordNumber table sheet
-    unfolding recordNumber pick
+    pub opened-14 : (first .number ≡ 0 → ⊥) → 14 ≡ openNumber table sheet
+    unfolding openNumber pick
     opened-14 n = rw (table-sound, ne-eqb (firstLine sheet .number) 0 (λ z. n (ap (λ x. x .number) e ∙ z)))
 
-    pub opened-found : first .number ≡ 0 → found .number ≡ recordNumber table sheet
-    unfolding recordNumber pick
+    pub opened-found : first .number ≡ 0 → found .number ≡ openNumber table sheet
+    unfolding openNumber pick
     opened-found z =
         let zero : firstLine sheet .number ≡ 0 = sym (ap (λ x. x .number) e) ∙ z in
         number-is ∙ (rw (table-sound, eq-eqb (firstLine sheet .number) 0 zero))
 
 -- a record that was found keeps the rules
-pub opened-sound : (table sheet : List ℕ) → recordNumber table sheet ≡ 0 → deviceOk (recordOf table sheet) ≡ true
-unfolding recordNumber recordOf
+pub opened-sound : (table sheet : List ℕ) → openNumber table sheet ≡ 0 → deviceOk (recordOf table sheet) ≡ true
+unfolding openNumber recordOf
 opened-sound table sheet z =
-    by (tableOk table) (eqb (firstLine sheet .number) 0) (hasId (firstLine sheet .id) (linesOf table)) z (found-sound table (firstLine sheet .id))
+    by (tableOk table) (eqb (firstLine sheet .number) 0) (hasId (firstLine sheet .id) (tableLines table)) z (found-sound table (firstLine sheet .id))
   where
     by : (t f h : Bool) → pick {A = ℕ} t (pick {A = ℕ} f (pick {A = ℕ} h 0 16) 14) 15 ≡ 0 → (t ≡ true → h ≡ true → deviceOk (foundIn table (firstLine sheet .id) .device) ≡ true)
         → deviceOk (foundIn table (firstLine sheet .id) .device) ≡ true
@@ -80,19 +81,19 @@ opened-sound table sheet z =
     by true false h q k = absurd (unfold pick in omega (arith, q))
     by false f h q k = absurd (unfold pick in omega (arith, q))
 
-module _ (table sheet : List ℕ) (n : ℕ) (e : n ≡ recordNumber table sheet) (z : n ≡ 0) (d : Device) (f : d ≡ recordOf table sheet) where
+module _ (table sheet : List ℕ) (n : ℕ) (e : n ≡ openNumber table sheet) (z : n ≡ 0) (d : Device) (f : d ≡ recordOf table sheet) where
   pub opened-rules : deviceOk d ≡ true
   opened-rules = ap deviceOk f ∙ opened-sound table sheet (sym e ∙ z)
 
-  pub opened-most : d .words ≤ 8192
+  pub opened-most : d .words ≤ mostWords
   opened-most = rules d opened-rules .most
 
 -- ---- a sheet that is read under a sound record, into a buffer of its length
 
-module _ (d : Device) (sound : deviceOk d ≡ true) (t b : List ℕ) (long : length b ≡ d .words + 9) (n : ℕ) (e : n ≡ readNumber d t b) where
+module _ (d : Device) (sound : deviceOk d ≡ true) (t b : List ℕ) (long : length b ≡ d .words + readingTail) (n : ℕ) (e : n ≡ readNumber d t b) where
   pub read-number : n ≡ pick (sheetOk d t) 0 14
   unfolding readNumber pick
-  read-number = e ∙ (rw (sound, eq-eqb (length b) (d .words + 9) long))
+  read-number = e ∙ (rw (sound, eq-eqb (length b) (d .words + readingTail) long))
 
   pub sheet-bad : (n ≡ 0 → ⊥) → sheetOk d t ≡ false
   sheet-bad h = by (sheetOk d t) read-number

@@ -1,14 +1,17 @@
 // A board, opened: the record that the table has for the ID on the sheet's first line, and the sheet's reading under it. No public call here has a `requires`.
 use device::Device;
+use device::MOST_WORDS;
+use device::READING_TAIL;
 ghost use mathlib.Core.Path.{_≡_};
 ghost use mathlib.Core.List.{_++_};
 ghost use Prim.Native.Nat.{_+_, _≤_};
 ghost use lib.ListN.{length, take, drop};
+ghost use Rattle.device.specs.Memory.{readingTail};
 ghost use Rattle.sheet.specs.Sheet.{readNumber, readBuffer};
-ghost use Rattle.board.specs.Open.{recordOf, recordNumber, boardNumber, openedReading};
+ghost use Rattle.board.specs.Open.{recordOf, openNumber, boardNumber, openedReading};
 
 // The most words that a reading has.
-pub const MOST_READING: usize = 8201;
+pub const MOST_READING: usize = (MOST_WORDS as usize) + READING_TAIL;
 
 // 15, 14 or 16, or 0 and the record.
 pub struct Opened {
@@ -18,7 +21,7 @@ pub struct Opened {
 
 // Finds the record; a malformed table is told by the search, whatever the ID.
 pub fn open_record(table: &[u8], sheet: &[u8]) -> Opened
-    ensures { λ r. ⌜ (r .number ≡ recordNumber (now (table .entry)) (now (sheet .entry))) × (r .device ≡ recordOf (now (table .entry)) (now (sheet .entry))) ⌝ }
+    ensures { λ r. ⌜ (r .number ≡ openNumber (now (table .entry)) (now (sheet .entry))) × (r .device ≡ recordOf (now (table .entry)) (now (sheet .entry))) ⌝ }
 {
     let first = sheet::read_id(sheet);
     let found = table::find_device(table, first.id);
@@ -50,9 +53,9 @@ pub fn open_board(table: &[u8], sheet: &[u8], reading: &mut [u16; MOST_READING])
 
 // Reads a sheet into the first words of a buffer.
 fn read_front(d: Device, sheet: &[u8], words: &mut [u16]) -> u8
-    requires { ⌜ d .words + 9 ≤ length (now words) ⌝ }
-    ensures { λ r. ⌜ (r ≡ readNumber d (now (sheet .entry)) (take (d .words + 9) (now (words .entry)))) × (now (words .exit) ≡ readBuffer d (now (sheet .entry)) (take (d .words + 9) (now (words .entry))) ++ drop (d .words + 9) (now (words .entry))) ⌝ }
+    requires { ⌜ d .words + readingTail ≤ length (now words) ⌝ }
+    ensures { λ r. ⌜ (r ≡ readNumber d (now (sheet .entry)) (take (d .words + readingTail) (now (words .entry)))) × (now (words .exit) ≡ readBuffer d (now (sheet .entry)) (take (d .words + readingTail) (now (words .entry))) ++ drop (d .words + readingTail) (now (words .entry))) ⌝ }
 {
-    let count = (d.words as usize) + 9;
+    let count = (d.words as usize) + READING_TAIL;
     sheet::read_sheet(d, sheet, &mut words[..count])
 }

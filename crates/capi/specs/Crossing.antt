@@ -3,7 +3,6 @@ use Prim.Native.Nat.{ℕ}
 use mathlib.Core.Path.{_≡_}
 use mathlib.Core.List.{List, [], _∷_}
 use lib.ListN.{getD}
-use Rattle.words.specs.declared.WordAddress.{WordAddress}
 use Rattle.device.specs.declared.Device.{Device}
 use Rattle.table.specs.declared.Found.{Found}
 use Rattle.judge.specs.declared.Sum.{Sum}
@@ -37,8 +36,8 @@ idAnswer number id = record { number = number; id = id }
 abbrev pub sheetAnswer : (number length : ℕ) → Written
 sheetAnswer number length = record { number = number; length = length }
 
-abbrev pub readAnswer : (number line : ℕ) → ReadHex
-readAnswer number line = record { number = number; line = line }
+abbrev pub hexOutcome : (number line : ℕ) → ReadHex
+hexOutcome number line = record { number = number; line = line }
 
 abbrev pub hexAnswer : (number length : ℕ) → WrittenHex
 hexAnswer number length = record { number = number; length = length }

@@ -1,15 +1,9 @@
 -- Laws of what crosses to C: a record comes back from its five numbers, and a search's answer from its parts.
 use Prim.Native.Nat.{ℕ}
-use mathlib.Core.Path.{_≡_, refl, ap, _∙_}
+use mathlib.Core.Path.{_≡_, ap, _∙_}
 use mathlib.Core.List.{List}
-use Rattle.device.specs.declared.Device.{Device}
 use Rattle.table.specs.declared.Found.{Found}
-use Rattle.capi.specs.Crossing.{deviceAt, numbersOf, Finds}
-
--- what a search stores is the record that the other calls take
-pub device-at-numbers : (d : Device) → deviceAt (numbersOf d) ≡ d
-unfolding deviceAt numbersOf
-device-at-numbers d = refl
+use Rattle.capi.specs.Crossing.{numbersOf, Finds}
 
 -- the parts of a search's answer
 pub finds : (found want : Found) (numbers : List ℕ) → found ≡ want → numbers ≡ numbersOf (found .device) → Finds want (found .number) numbers (found .«name_at») (found .«name_len»)

@@ -2,7 +2,7 @@
 use crate::record::device_at;
 ghost use Rattle.hexread.specs.Reader.{HexRead};
 ghost use Rattle.hexwrite.specs.Writer.{WroteHex};
-ghost use Rattle.capi.specs.Crossing.{deviceAt, readAnswer, hexAnswer};
+ghost use Rattle.capi.specs.Crossing.{deviceAt, hexOutcome, hexAnswer};
 
 // HEX text read into an image.
 #[no_mangle]
@@ -12,7 +12,7 @@ pub extern "C" fn tickmallet_read_hex(
     image: &mut [u16],
     line: &mut u32,
 ) -> u8
-    ensures { λ r. ⌜ HexRead (deviceAt (now (numbers .entry))) (now (text .entry)) (now (image .entry)) (readAnswer r (now (line .exit))) (now (image .exit)) ⌝ }
+    ensures { λ r. ⌜ HexRead (deviceAt (now (numbers .entry))) (now (text .entry)) (now (image .entry)) (hexOutcome r (now (line .exit))) (now (image .exit)) ⌝ }
 {
     let a = hexread::read_hex(device_at(numbers), text, image);
     *line = a.line;

@@ -19,7 +19,7 @@ pub record Rules (d : Device) : Type 0 where
   pub row-is : rowOk (d .row) ≡ true
   pub multiple : d .words % d .row ≡ 0
   pub least : d .row ≤ d .words
-  pub most : d .words ≤ 8192
+  pub most : d .words ≤ mostWords
   pub id-word : d .id < 0x4000
   pub mask1-word : d .mask1 < 0x4000
   pub mask2-word : d .mask2 < 0x4000
@@ -57,7 +57,16 @@ module _ (d : Device) where
   unfolding deviceOk wordsOk
   keeps r =
       let v : Rules d = r in
-      rw (v .row-is, eq-eqb (d .words % d .row) 0 (v .multiple), le-leb (d .row) (d .words) (v .least), le-leb (d .words) mostWords (v .most), is-word (d .id) (v .id-word), is-word (d .mask1) (v .mask1-word), is-word (d .mask2) (v .mask2-word), eq-eqb (bit (d .mask1) 7) 1 (v .cp-bit))
+      rw (
+        v .row-is,
+        eq-eqb (d .words % d .row) 0 (v .multiple),
+        le-leb (d .row) (d .words) (v .least),
+        le-leb (d .words) mostWords (v .most),
+        is-word (d .id) (v .id-word),
+        is-word (d .mask1) (v .mask1-word),
+        is-word (d .mask2) (v .mask2-word),
+        eq-eqb (bit (d .mask1) 7) 1 (v .cp-bit),
+      )
 
   pub rules : deviceOk d ≡ true → Rules d
   unfolding deviceOk wordsOk

@@ -1,11 +1,13 @@
 -- The three lists of words ('Memory of the target'): entry i below P is program word i, and entry P+k is word 8000h+k.
-use Prim.Native.Nat.{ℕ, _+_}
-use mathlib.Core.Bool.{Bool, _&&_, _||_, not}
+use Prim.Native.Nat.{ℕ, _+_, _-_}
+use mathlib.Core.Bool.{Bool, _&&_, _||_}
 use mathlib.Core.List.{List}
-use lib.Dec.{leb, eqb}
+use lib.Dec.{ltb, eqb}
 use lib.ListN.{length, getD}
 use Rattle.words.specs.Word.{notGiven, isWord, bit, wordsOf}
 use Rattle.words.specs.Lists.{every, inRange}
+
+-- ---- places
 
 -- a reading has the words to 8008h, the cells have the two calibration words too
 abbrev pub readingTail : ℕ
@@ -14,18 +16,48 @@ readingTail = 9
 abbrev pub cellsTail : ℕ
 cellsTail = 11
 
+-- the user IDs are the first four words of configuration space, the device ID is its word 6
+abbrev pub ids : ℕ
+ids = 4
+
+abbrev pub deviceId : ℕ
+deviceId = 6
+
+-- CP is bit 7 of its word 7
+abbrev pub cpWord : ℕ
+cpWord = 7
+
+abbrev pub cpBit : ℕ
+cpBit = 7
+
+-- word k of configuration space is one of the two configuration words
+unfoldable pub isConfig : ℕ → Bool
+isConfig k = inRange 7 2 k
+
+-- entry i is a program word, a user ID or a configuration word
+unfoldable pub programmable : (words i : ℕ) → Bool
+programmable words i = ltb i words || ltb (i - words) ids || isConfig (i - words)
+
+-- ---- lists
+
 -- P+9 words
 unfoldable pub readingOk : (words : ℕ) → List ℕ → Bool
 readingOk words l = wordsOf (words + readingTail) l
 
--- an image's entry is 'not given', or a word at any place but 8004h to 8006h
+-- an image's entry is 'not given', or a word of those that may be given
 unfoldable pub entryOk : (words i entry : ℕ) → Bool
-entryOk words i entry = eqb entry notGiven || (isWord entry && not (inRange (words + 4) 3 i))
+entryOk words i entry = eqb entry notGiven || (isWord entry && programmable words i)
 
 -- P+9 such entries
 unfoldable pub imageOk : (words : ℕ) → List ℕ → Bool
 imageOk words l = eqb (length l) (words + readingTail) && every (words + readingTail) (λ i. entryOk words i (getD l i 0))
 
--- CP is bit 7 of 8007h; 0 means protected
+-- ---- code protection
+
+-- a bit of entry i is 0
+unfoldable pub zeroBit : (i at : ℕ) → List ℕ → Bool
+zeroBit i at l = eqb (bit (getD l i 0) at) 0
+
+-- CP is 0
 unfoldable pub protected : (words : ℕ) → List ℕ → Bool
-protected words l = eqb (bit (getD l (words + 7) 0) 7) 0
+protected words l = zeroBit (words + cpWord) cpBit l

@@ -2,7 +2,7 @@
 use Prim.Native.Nat.{ℕ, _%_}
 use mathlib.Core.Bool.{Bool, _&&_, _||_}
 use lib.Dec.{leb, eqb}
-use Rattle.words.specs.Choice.{pick}
+use Rattle.words.specs.Choice.{unless}
 use Rattle.words.specs.Word.{isWord, bit}
 use Rattle.device.specs.declared.Device.{Device}
 
@@ -28,6 +28,10 @@ deviceOk d =
     && isWord (d .mask2)
     && eqb (bit (d .mask1) 7) 1
 
+-- a board's ID word fits the record
+unfoldable pub idFits : Device → ℕ → Bool
+idFits d word = eqb word (d .id)
+
 -- what the call that judges a record answers
 unfoldable pub recordNumber : Device → ℕ
-recordNumber d = pick (deviceOk d) 0 13
+recordNumber d = unless (deviceOk d) 13 0

@@ -3,6 +3,10 @@ mod memory;
 mod record;
 
 pub use memory::is_image;
+pub use memory::is_protected;
+pub use memory::is_reading;
+pub use memory::programmable;
+pub use record::id_fits;
 pub use record::judge;
 
 // A device: its ID word, program words P, row words R, and the masks of the two configuration words. Its name is the table's.
@@ -16,3 +20,11 @@ pub struct Device {
 
 // The most program words that a device may have.
 pub const MOST_WORDS: u16 = 8192;
+
+// How many words of configuration space an image or a reading has, and how many the cells have.
+pub const READING_TAIL: usize = 9;
+
+pub const CELLS_TAIL: usize = 11;
+
+// How many user IDs there are: the first words of configuration space.
+pub const IDS: usize = 4;

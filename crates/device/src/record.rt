@@ -4,7 +4,7 @@ use crate::MOST_WORDS;
 use words::WORD_LIMIT;
 ghost use mathlib.Core.Path.{_≡_};
 ghost use Prim.Native.Nat.{_<_};
-ghost use Rattle.device.specs.Record.{rowOk, wordsOk, recordNumber};
+ghost use Rattle.device.specs.Record.{rowOk, wordsOk, idFits, recordNumber};
 
 // 0, or 13 for a record that breaks the rules.
 pub fn judge(d: Device) -> u8
@@ -54,4 +54,11 @@ fn words_ok(words: u16, row: u16) -> bool
         return false;
     }
     words <= MOST_WORDS
+}
+
+// Whether a board's ID word fits the record.
+pub fn id_fits(d: Device, word: u16) -> bool
+    ensures { λ r. ⌜ r ≡ idFits d word ⌝ }
+{
+    word == d.id
 }

@@ -1,25 +1,21 @@
 -- Laws of giving the words of a data record to an image.
 use Prim.Native.Nat.{ℕ, zero, suc, _+_, _-_, _*_, _/_, _≤_, _<_}
-use native.Mathlib.Decide.{decLt}
 use native.Mathlib.Omega.{arith}
 use mathlib.Core.Path.{_≡_, refl, sym, ap, _∙_}
-use mathlib.Core.Bool.{Bool, true, false, not}
+use mathlib.Core.Bool.{Bool, true, false}
 use mathlib.Core.List.{List, [], _∷_}
-use lib.Dec.{ltb, leb}
 use lib.ListN.{length, getD, set, length-set}
-use borrow.Author.Tests.{lt-ltb, le-ltb, le-leb, lt-leb, eq-eqb, ne-eqb, ltb-true}
+use borrow.Author.Tests.{eq-eqb, ne-eqb}
 use Rattle.words.specs.Choice.{pick}
 use Rattle.words.specs.Word.{notGiven}
-use Rattle.words.specs.Lists.{inRange}
 use Rattle.words.specs.Address.{halved}
 use Rattle.words.specs.declared.ByteAddress.{ByteAddress}
 use Rattle.words.specs.declared.Place.{Place}
-use Rattle.words.specs.LawsChoice.{first-holds}
 use Rattle.words.specs.LawsWord.{is-word, not-word}
-use Rattle.words.specs.LawsLists.{in-range, below-range, above-range}
-use Rattle.device.specs.Memory.{readingTail}
+use Rattle.device.specs.Memory.{readingTail, programmable}
+use Rattle.device.specs.LawsMemory.{programmable-lt}
 use Rattle.hexread.specs.Line.{countOf}
-use Rattle.hexread.specs.Reader.{wordOf, byteAddress, entryAt, entryOfWord, canGive, wordNumber, Reading, giveWords}
+use Rattle.hexread.specs.Reader.{wordOf, byteAddress, entryAt, entryOfWord, wordNumber, Reading, giveWords}
 use Rattle.hexread.specs.LawsLine.{OffsetRead}
 use Rattle.hexread.specs.LawsDecode.{OffsetOf, Sound, sound-count, sound-offset, sound-word}
 
@@ -45,28 +41,6 @@ unfolding entryOfWord
 entry-read words upper line offset j entry b p o eb ep e =
     e ∙ ap (entryAt words) (ep ∙ ap halved (eb ∙ address-read upper line offset j o))
 
-module _ (words entry : ℕ) where
-  pub give-past : words + 9 ≤ entry → canGive words entry ≡ false
-  unfolding canGive
-  give-past h = rw (le-ltb entry (words + readingTail) h)
-
-  pub give-low : entry < words + 4 → canGive words entry ≡ true
-  unfolding canGive
-  give-low h = rw (lt-ltb entry (words + readingTail) (omega arith), below-range (words + 4) 3 entry h)
-
-  -- the last test of the code
-  pub give-high : entry < words + 9 → words + 4 ≤ entry → canGive words entry ≡ leb (words + 7) entry
-  unfolding canGive
-  give-high h k = by (decLt entry (words + 7))
-    where
-      by : Dec (entry < words + 7) → canGive words entry ≡ leb (words + 7) entry
-      by (yes p) = rw (lt-ltb entry (words + readingTail) h, in-range (words + 4) 3 entry k (omega arith), lt-leb (words + 7) entry p)
-      by (no p) = rw (lt-ltb entry (words + readingTail) h, above-range (words + 4) 3 entry (omega arith), le-leb (words + 7) entry (omega arith))
-
-  pub can-give-lt : canGive words entry ≡ true → entry < words + 9
-  unfolding canGive
-  can-give-lt t = ltb-true entry (words + readingTail) (first-holds (ltb entry (words + readingTail)) (not (inRange (words + 4) 3 entry)) t)
-
 -- ---- one turn over the words that are left
 
 module _ (words upper : ℕ) (line image : List ℕ) where
@@ -87,10 +61,10 @@ module _ (words upper : ℕ) (line image : List ℕ) where
     give-on e = rw next (unfold giveWords pick in rw e)
 
     module _ (entry : ℕ) (at : entry ≡ entryOfWord words upper line j) where
-      pub turn-7 : canGive words entry ≡ false → giveWords words upper line image j (n - j) ≡ reading false upper image 7
+      pub turn-7 : programmable words entry ≡ false → giveWords words upper line image j (n - j) ≡ reading false upper image 7
       turn-7 f = give-stop 7 (unfold wordNumber pick in rw (← at, f)) (λ z. omega arith)
 
-      module _ (can : canGive words entry ≡ true) (word : ℕ) (w : word ≡ wordOf line j) where
+      module _ (can : programmable words entry ≡ true) (word : ℕ) (w : word ≡ wordOf line j) where
         pub turn-8 : 0x4000 ≤ word → giveWords words upper line image j (n - j) ≡ reading false upper image 8
         turn-8 h = give-stop 8 (unfold wordNumber pick in rw (← at, can, ← w, not-word word h)) (λ z. omega arith)
 
@@ -119,13 +93,13 @@ pub record Giving (words upper : ℕ) (bytes image₀ : List ℕ) (offset n : �
   pub within : j ≤ n
   pub few : n < 128
   pub size : n ≡ getD bytes 0 0 / 2
-  pub long : length image ≡ words + 9
+  pub long : length image ≡ words + readingTail
   pub kept : length image ≡ length image₀
   pub start : OffsetOf bytes offset
   pub rest : (line : List ℕ) → Sound line bytes → giveWords words upper line image j (n - j) ≡ giveWords words upper line image₀ 0 (countOf line / 2)
 
 module _ (words upper : ℕ) (bytes image₀ : List ℕ) (offset : ℕ) where
-  pub giving-none : OffsetOf bytes offset → getD bytes 0 0 < 256 → length image₀ ≡ words + 9 → Giving words upper bytes image₀ offset (getD bytes 0 0 / 2) image₀ 0
+  pub giving-none : OffsetOf bytes offset → getD bytes 0 0 < 256 → length image₀ ≡ words + readingTail → Giving words upper bytes image₀ offset (getD bytes 0 0 / 2) image₀ 0
   giving-none o c l =
       let all : getD bytes 0 0 / 2 - 0 ≡ getD bytes 0 0 / 2 = omega arith in
       record {
@@ -146,13 +120,13 @@ module _ (words upper : ℕ) (bytes image₀ : List ℕ) (offset : ℕ) where
       at : (line : List ℕ) → Sound line bytes → entry ≡ entryOfWord words upper line j
       at line s = entry-read words upper line offset j entry b p (sound-offset line bytes s offset (g .start)) eb ep e
 
-      module _ (can : Bool) (ec : can ≡ canGive words entry) where
+      module _ (can : Bool) (ec : can ≡ programmable words entry) where
         pub giving-7 : can ≡ false → Gives words upper bytes image₀ image 7
         giving-7 f line s = sym (turn-7 words upper line image j n left entry (at line s) (sym ec ∙ f)) ∙ g .rest line s
 
         module _ (t : can ≡ true) where
           pub entry-lt : entry < length image
-          entry-lt = rw (g .long) (can-give-lt words entry (sym ec ∙ t))
+          entry-lt = rw (g .long) (programmable-lt words entry (sym ec ∙ t))
 
           module _ (word : ℕ) (w : word ≡ getD bytes (4 + 2 * j) 0 + 256 * getD bytes (5 + 2 * j) 0) where
             is : (line : List ℕ) → Sound line bytes → word ≡ wordOf line j

@@ -12,17 +12,18 @@ use Rattle.words.specs.declared.ByteAddress.{ByteAddress}
 use Rattle.words.specs.declared.Place.{Place}
 use Rattle.words.specs.declared.Place.the-variants.{At, Nowhere}
 use Rattle.words.specs.LawsAddress.{placed-at, placed-nowhere, halved-doubled, halved-odd, halved-even, entry-program, entry-between, entry-config, entry-beyond}
-use Rattle.device.specs.Memory.{readingTail}
+use Rattle.device.specs.Memory.{readingTail, programmable}
+use Rattle.device.specs.LawsMemory.{programmable-low}
 use Rattle.hexread.specs.Line.{countOf, offsetOf}
-use Rattle.hexread.specs.Reader.{wordOf, byteAddress, entryAt, entryOfWord, canGive, giveWords}
+use Rattle.hexread.specs.Reader.{wordOf, byteAddress, entryAt, entryOfWord, giveWords}
 use Rattle.hexread.specs.LawsDecode.{OffsetOf, Sound, sound-count, sound-offset, sound-word}
-use Rattle.hexread.specs.LawsGive.{Gives, entry-read, give-low, give-none, turn-8, turn-9, turn-on}
+use Rattle.hexread.specs.LawsGive.{Gives, entry-read, give-none, turn-8, turn-9, turn-on}
 
 -- ---- entries below the end of program space
 
 -- what the entry of an address tells about it
 record Found (words a e : ℕ) : Type 0 where
-  most : e ≤ words + 9
+  most : e ≤ words + readingTail
   program : e < words → e ≡ a
 
 found : (words a : ℕ) → Found words a (entryOf configBase words readingTail a)
@@ -36,7 +37,7 @@ found words a = by (decLt a words) (decLt a configBase) (decLt (a - configBase) 
     by (no p) (no q) (no r) =
         rw (entry-beyond configBase words readingTail a (omega arith) (omega arith) (omega arith)) (record { most = omega arith; program = λ h. absurd (omega arith) })
 
-entry-most : (words : ℕ) (p : Place) → entryAt words p ≤ words + 9
+entry-most : (words : ℕ) (p : Place) → entryAt words p ≤ words + readingTail
 unfolding entryAt
 entry-most words (At a) = found words (a .0) .most
 entry-most words Nowhere = omega arith
@@ -72,7 +73,7 @@ module _ (words upper : ℕ) (line : List ℕ) (j : ℕ) (small : words ≤ 0x10
 
 pub record FirstEntry (words upper : ℕ) (bytes : List ℕ) (first : ℕ) : Type 0 where
   pub value : (line : List ℕ) → Sound line bytes → first ≡ entryOfWord words upper line 0
-  pub most : first ≤ words + 9
+  pub most : first ≤ words + readingTail
 
 pub first-read : (words upper : ℕ) (bytes : List ℕ) (offset : ℕ) → OffsetOf bytes offset
     → (b : ByteAddress) → b ≡ record { 0 = upper * 65536 + offset + 2 * 0 } → (p : Place) → p ≡ halved b → (first : ℕ) → first ≡ entryAt words p → FirstEntry words upper bytes first
@@ -121,8 +122,8 @@ module _ (bytes image₀ : List ℕ) (first n : ℕ) where
             let e : first ≡ entryOfWord words upper line 0 = p .start .value line s in
             rw e (next-entry words upper line j (p .small) (omega (arith, p .within)))
 
-        can : canGive words (first + j) ≡ true
-        can = give-low words (first + j) (omega (arith, p .within))
+        can : programmable words (first + j) ≡ true
+        can = programmable-low words (first + j) (omega (arith, p .within))
 
         is : word ≡ wordOf line j
         is = sound-word line bytes s j word (rw (p .size) at left) w

@@ -3,50 +3,40 @@ use Prim.Native.Nat.{ℕ, zero, suc, _+_, _*_, _/_, _≤_, _<_}
 use native.Mathlib.Decide.{ℕ-discrete}
 use native.Mathlib.Omega.{arith}
 use mathlib.Core.Path.{_≡_, refl, ap, _∙_}
-use mathlib.Core.Bool.{Bool, true, false, _||_, not}
+use mathlib.Core.Bool.{Bool, true, false}
 use mathlib.Core.List.{List, [], _∷_}
-use lib.Dec.{ltb, leb, eqb}
+use lib.Dec.{leb, eqb}
 use lib.ListN.{length, getD, set, length-set, length-replicate, getD-replicate}
 use lib.Seq.{getD-set-same, getD-set-other}
 use borrow.Author.Tests.{eqb-true, leb-true, eq-eqb, ne-eqb}
 use Rattle.words.specs.Choice.{pick}
 use Rattle.words.specs.Word.{notGiven, isWord}
-use Rattle.words.specs.Lists.{inRange}
-use Rattle.words.specs.LawsChoice.{second-holds, pick-true, pick-false}
+use Rattle.words.specs.LawsChoice.{pick-true, pick-false}
+use Rattle.words.specs.LawsWord.{word-lt}
 use Rattle.device.specs.declared.Device.{Device}
 use Rattle.device.specs.Record.{deviceOk}
-use Rattle.device.specs.Memory.{readingTail, entryOk, imageOk}
-use Rattle.device.specs.LawsMemory.{entry-none, image-long, image-each, image-of}
+use Rattle.device.specs.Memory.{readingTail, programmable, entryOk, imageOk}
+use Rattle.device.specs.LawsMemory.{programmable-lt, entry-none, entry-given, image-long, image-each, image-of}
 use Rattle.lines.specs.Lines.{linesOf}
 use Rattle.hexread.specs.Line.{byteAt, countOf, typeOf, lineNumber}
-use Rattle.hexread.specs.Reader.{mostText, wordOf, entryOfWord, canGive, wordNumber, Reading, giveWords, recordStep, lineRefused, lineStep, blankImage, refusedAt, readLines, begun, readOf}
-use Rattle.hexread.specs.LawsGive.{can-give-lt}
+use Rattle.hexread.specs.Reader.{mostText, wordOf, entryOfWord, wordNumber, Reading, giveWords, recordStep, lineRefused, lineStep, blankImage, refusedAt, readLines, begun, textRead}
 
 -- ---- a word given keeps an image sound
 
-or-true : (a : Bool) → (a || true) ≡ true
-or-true true = refl
-or-true false = refl
-
-given-ok : (words entry word : ℕ) → canGive words entry ≡ true → isWord word ≡ true → entryOk words entry word ≡ true
-unfolding entryOk canGive
-given-ok words entry word c w =
-    rw (w, second-holds (ltb entry (words + readingTail)) (not (inRange (words + 4) 3 entry)) c) (or-true (eqb word notGiven))
-
-pub set-ok : (words : ℕ) (image : List ℕ) (entry word : ℕ) → imageOk words image ≡ true → canGive words entry ≡ true → isWord word ≡ true → imageOk words (set image entry word) ≡ true
+pub set-ok : (words : ℕ) (image : List ℕ) (entry word : ℕ) → imageOk words image ≡ true → programmable words entry ≡ true → isWord word ≡ true → imageOk words (set image entry word) ≡ true
 set-ok words image entry word e c w =
     image-of words (set image entry word) (length-set image entry word ∙ long) (λ i h. each i h (ℕ-discrete i entry))
   where
-    long : length image ≡ words + 9
+    long : length image ≡ words + readingTail
     long = image-long words image e
 
     here : entry < length image
-    here = rw long (can-give-lt words entry c)
+    here = rw long (programmable-lt words entry c)
 
-    each : (i : ℕ) → i < words + 9 → Dec (i ≡ entry) → entryOk words i (getD (set image entry word) i 0) ≡ true
+    each : (i : ℕ) → i < words + readingTail → Dec (i ≡ entry) → entryOk words i (getD (set image entry word) i 0) ≡ true
     each i h (yes q) =
         ap (λ n. entryOk words n (getD (set image entry word) n 0)) q
-        ∙ (ap (entryOk words entry) (getD-set-same image entry word 0 here) ∙ given-ok words entry word c w)
+        ∙ (ap (entryOk words entry) (getD-set-same image entry word 0 here) ∙ (entry-given words entry word (word-lt word w) ∙ c))
     each i h (no q) = ap (entryOk words i) (getD-set-other image entry i word 0 q) ∙ image-each words image e i h
 
 pub blank-ok : (words : ℕ) → imageOk words (blankImage words) ≡ true
@@ -57,9 +47,9 @@ blank-ok words =
 
 -- a word with no refusal can be given, and is a word
 pub word-tells : (words upper : ℕ) (line image : List ℕ) (j : ℕ) → wordNumber words upper line image j ≡ 0
-    → (canGive words (entryOfWord words upper line j) ≡ true) × (isWord (wordOf line j) ≡ true)
+    → (programmable words (entryOfWord words upper line j) ≡ true) × (isWord (wordOf line j) ≡ true)
 unfolding wordNumber pick
-word-tells words upper line image j e = by (canGive words (entryOfWord words upper line j)) (isWord (wordOf line j)) e
+word-tells words upper line image j e = by (programmable words (entryOfWord words upper line j)) (isWord (wordOf line j)) e
   where
     by : (t u : Bool) → pick {A = ℕ} t (pick u (pick (eqb (getD image (entryOfWord words upper line j) notGiven) notGiven) 0 9) 8) 7 ≡ 0 → (t ≡ true) × (u ≡ true)
     by true true q = (refl, refl)
@@ -80,7 +70,8 @@ give-ok words upper line (suc n) j image e = by (ℕ-discrete (wordNumber words 
     next : List ℕ
     next = set image (entryOfWord words upper line j) (wordOf line j)
 
-    by : Dec (wordNumber words upper line image j ≡ 0) → (Sound words next → Sound words (giveWords words upper line next (j + 1) n .image)) → Sound words (giveWords words upper line image j (suc n) .image)
+    by : Dec (wordNumber words upper line image j ≡ 0) → (Sound words next → Sound words (giveWords words upper line next (j + 1) n .image))
+        → Sound words (giveWords words upper line image j (suc n) .image)
     by (yes z) rest =
         let told = word-tells words upper line image j z in
         rw (pick-true (eqb (wordNumber words upper line image j) 0) _ _ (eq-eqb (wordNumber words upper line image j) 0 z))
@@ -130,16 +121,17 @@ lines-ok words (l ∷ ls) k r e = by (eqb (lineStep words l r .number) 0) (lines
 -- what an answer of 0 tells
 pub record Told (d : Device) (text image : List ℕ) : Type 0 where
   pub sound : deviceOk d ≡ true
-  pub long : length image ≡ d .words + 9
+  pub long : length image ≡ d .words + readingTail
   pub short : length text ≤ mostText
-  pub lines : readOf d text image ≡ readLines (d .words) (linesOf text) 1 (begun (d .words))
+  pub lines : textRead d text image ≡ readLines (d .words) (linesOf text) 1 (begun (d .words))
 
-pub read-tells : (d : Device) (text image : List ℕ) → readOf d text image .number ≡ 0 → Told d text image
-unfolding readOf refusedAt
+pub read-tells : (d : Device) (text image : List ℕ) → textRead d text image .number ≡ 0 → Told d text image
+unfolding textRead refusedAt
 read-tells d text image e = by (deviceOk d) (eqb (length image) (d .words + readingTail)) (leb (length text) mostText) refl refl refl e
   where
     by : (t u v : Bool) → deviceOk d ≡ t → eqb (length image) (d .words + readingTail) ≡ u → leb (length text) mostText ≡ v
-        → pick t (pick u (pick v (readLines (d .words) (linesOf text) 1 (begun (d .words))) (refusedAt (d .words) 1 0)) (record { number = 12; line = 0; image = image })) (record { number = 13; line = 0; image = image }) .number ≡ 0
+        → pick t (pick u (pick v (readLines (d .words) (linesOf text) 1 (begun (d .words))) (refusedAt (d .words) 1 0)) (record { number = 12; line = 0; image = image }))
+        (record { number = 13; line = 0; image = image }) .number ≡ 0
         → Told d text image
     by true true true p q w z =
         record {
@@ -153,7 +145,7 @@ read-tells d text image e = by (deviceOk d) (eqb (length image) (d .words + read
     by false u v p q w z = absurd (unfold pick in omega arith)
 
 -- a text that is read leaves an image
-pub read-image-ok : (d : Device) (text image : List ℕ) → readOf d text image .number ≡ 0 → imageOk (d .words) (readOf d text image .image) ≡ true
+pub read-image-ok : (d : Device) (text image : List ℕ) → textRead d text image .number ≡ 0 → imageOk (d .words) (textRead d text image .image) ≡ true
 read-image-ok d text image e =
     ap (λ o. imageOk (d .words) (o .image)) (read-tells d text image e .lines)
     ∙ lines-ok (d .words) (linesOf text) 1 (begun (d .words)) (unfold begun in blank-ok (d .words))

@@ -9,9 +9,9 @@ use lib.Dec.{eqb}
 use lib.ListN.{length}
 use borrow.Author.Tests.{eq-eqb, eqb-true, not-true}
 use Rattle.words.specs.Choice.{pick}
-use Rattle.numerals.specs.Text.{lf, cr, split, inFront}
+use Rattle.numerals.specs.Text.{cr, split, inFront}
 use Rattle.words.specs.LawsChoice.{both, first-holds, second-holds, true-not-false}
-use Rattle.lines.specs.Lines.{withoutCr, allWithoutCr, linesOf}
+use Rattle.lines.specs.Lines.{withoutCr}
 use Rattle.hexread.specs.Reader.{Reading, lineStep, refusedAt, readLines}
 use Rattle.hexread.specs.LawsReader.{lines-on}
 
@@ -46,11 +46,6 @@ unfolding withoutCr pick
 line-whole [] e = refl
 line-whole (c ∷ []) e = rw (without-first cr c [] e)
 line-whole (c ∷ b ∷ l) e = ap (λ t. c ∷ t) (line-whole (b ∷ l) (without-rest cr c (b ∷ l) e))
-
--- the first line of a text, and the lines of the rest
-pub lines-line : (l t : List ℕ) → without lf l ≡ true → without cr l ≡ true → linesOf (l ++ (lf ∷ t)) ≡ l ∷ linesOf t
-unfolding linesOf allWithoutCr
-lines-line l t e w = ap allWithoutCr (split-line lf l t e) ∙ ap (λ x. x ∷ allWithoutCr (split lf t)) (line-whole l w)
 
 -- ---- lines after lines
 

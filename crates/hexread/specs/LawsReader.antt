@@ -1,14 +1,14 @@
 -- Laws of reading HEX text: one line, the lines one after another, and the call.
 use Prim.Native.Nat.{ℕ, _+_, _-_, _*_, _/_, _≤_, _<_}
-use native.Mathlib.Decide.{decLt, ℕ-discrete}
+use native.Mathlib.Decide.{ℕ-discrete}
 use native.Mathlib.Omega.{arith}
 use mathlib.Core.Path.{_≡_, refl, sym, ap, _∙_}
 use mathlib.Core.Logic.{_⊎_, inl, inr}
 use mathlib.Core.Bool.{Bool, true, false}
 use mathlib.Core.List.{List, [], _∷_, _++_, append-nil}
 use lib.Dec.{eqb}
-use lib.ListN.{length, take, drop, set, replicate, length-set, length-drop, length-replicate, drop-of-length-le}
-use lib.Seq.{take-all, drop-length}
+use lib.ListN.{length, drop, set, replicate, length-set, length-replicate, drop-of-length-le}
+use lib.Seq.{drop-length}
 use borrow.Author.Fill.{fill-none, fill-more}
 use borrow.Author.Tests.{eq-eqb, ne-eqb, le-leb, lt-leb}
 use Rattle.words.specs.Choice.{pick}
@@ -20,7 +20,7 @@ use Rattle.device.specs.Memory.{readingTail}
 use Rattle.lines.specs.Lines.{linesOf, lineAt, endOf}
 use Rattle.lines.specs.LawsLine.{lines-of-nothing, lines-left, end-most, end-least}
 use Rattle.hexread.specs.Line.{countOf, typeOf, lineNumber}
-use Rattle.hexread.specs.Reader.{mostText, Reading, giveWords, recordStep, lineRefused, lineStep, blankImage, Outcome, refusedAt, readLines, begun, readOf, readAnswer, HexRead}
+use Rattle.hexread.specs.Reader.{mostText, Reading, giveWords, recordStep, lineRefused, lineStep, blankImage, Outcome, refusedAt, readLines, begun, textRead, readAnswer, HexRead}
 use Rattle.hexread.specs.LawsLine.{ByteRead}
 use Rattle.hexread.specs.LawsGive.{reading}
 use Rattle.hexread.specs.declared.ReadHex.{ReadHex}
@@ -165,7 +165,7 @@ pub record Ahead (words : ℕ) (text image₀ : List ℕ) (at line : ℕ) (ended
   pub short : length text ≤ mostText
   pub within : at ≤ length text + 1
   pub count : line ≤ at + 1
-  pub long : length image ≡ words + 9
+  pub long : length image ≡ words + readingTail
   pub kept : length image ≡ length image₀
   pub rest : readLines words (linesOf (drop at text)) line (reading ended upper image 0) ≡ outcome words text image₀
 
@@ -176,7 +176,7 @@ pub record LinesRead (words : ℕ) (text image₀ : List ℕ) (number line : ℕ
   pub image-is : number ≡ 0 → image ≡ outcome words text image₀ .image
 
 module _ (words : ℕ) (text image₀ : List ℕ) where
-  pub ahead-all : length text ≤ mostText → length image₀ ≡ words + 9 → Ahead words text image₀ 0 1 false 0 image₀
+  pub ahead-all : length text ≤ mostText → length image₀ ≡ words + readingTail → Ahead words text image₀ 0 1 false 0 image₀
   ahead-all s l = record { short = s; within = omega arith; count = omega arith; long = l; kept = refl; rest = refl }
 
   module _ (at line : ℕ) (ended : Bool) (upper : ℕ) (image : List ℕ) (a : Ahead words text image₀ at line ended upper image) where
@@ -277,7 +277,7 @@ refused-blank words (l ∷ ls) k r n = by (ℕ-discrete (lineStep words l r .num
     by (no e) rest = ap (λ o. o .image) (lines-stop words l ls k r e) ∙ refused-image words (lineStep words l r .number) k
 
 module _ (d : Device) (text image : List ℕ) where
-  answered : (o : Outcome) (image′ : List ℕ) (r : ReadHex) → readOf d text image ≡ o → r .number ≡ o .number → r .line ≡ o .line → image′ ≡ o .image → HexRead d text image r image′
+  answered : (o : Outcome) (image′ : List ℕ) (r : ReadHex) → textRead d text image ≡ o → r .number ≡ o .number → r .line ≡ o .line → image′ ≡ o .image → HexRead d text image r image′
   unfolding readAnswer
   answered o image′ r e n l i =
       record {
@@ -286,29 +286,30 @@ module _ (d : Device) (text image : List ℕ) where
       }
 
   pub hex-13 : deviceOk d ≡ false → HexRead d text image (record { number = 13; line = 0 }) image
-  hex-13 f = answered (record { number = 13; line = 0; image = image }) image _ (unfold readOf in pick-false (deviceOk d) _ _ f) refl refl refl
+  hex-13 f = answered (record { number = 13; line = 0; image = image }) image _ (unfold textRead in pick-false (deviceOk d) _ _ f) refl refl refl
 
   module _ (sound : deviceOk d ≡ true) where
-    pub hex-12 : (length image ≡ d .words + 9 → ⊥) → HexRead d text image (record { number = 12; line = 0 }) image
-    hex-12 n = answered (record { number = 12; line = 0; image = image }) image _ (unfold readOf pick in rw (sound, ne-eqb (length image) (d .words + readingTail) n)) refl refl refl
+    pub hex-12 : (length image ≡ d .words + readingTail → ⊥) → HexRead d text image (record { number = 12; line = 0 }) image
+    hex-12 n = answered (record { number = 12; line = 0; image = image }) image _ (unfold textRead pick in rw (sound, ne-eqb (length image) (d .words + readingTail) n)) refl refl refl
 
-    module _ (long : length image ≡ d .words + 9) where
+    module _ (long : length image ≡ d .words + readingTail) where
       cleared : (l : List ℕ) → l ≡ replicate (length image) notGiven → l ≡ blankImage (d .words)
       unfolding blankImage
       cleared l e = e ∙ ap (λ n. replicate n notGiven) long
 
       -- no refusal before the first line
-      pub read-begins : length text ≤ mostText → readOf d text image ≡ readLines (d .words) (linesOf text) 1 (reading false 0 (blankImage (d .words)) 0)
-      unfolding readOf pick begun
+      pub read-begins : length text ≤ mostText → textRead d text image ≡ readLines (d .words) (linesOf text) 1 (reading false 0 (blankImage (d .words)) 0)
+      unfolding textRead pick begun
       read-begins h = rw (sound, eq-eqb (length image) (d .words + readingTail) long, le-leb (length text) mostText h)
 
       pub hex-1 : mostText < length text → (image′ : List ℕ) → image′ ≡ replicate (length image) notGiven → HexRead d text image (record { number = 1; line = 0 }) image′
       hex-1 h image′ c =
-          answered (refusedAt (d .words) 1 0) image′ _ (unfold readOf pick in rw (sound, eq-eqb (length image) (d .words + readingTail) long, lt-leb (length text) mostText h))
+          answered (refusedAt (d .words) 1 0) image′ _ (unfold textRead pick in rw (sound, eq-eqb (length image) (d .words + readingTail) long, lt-leb (length text) mostText h))
           (sym (refused-number (d .words) 1 0)) (sym (refused-line (d .words) 1 0)) (cleared image′ c ∙ sym (refused-image (d .words) 1 0))
 
-      module _ (short : length text ≤ mostText) (image₁ : List ℕ) (c₁ : image₁ ≡ replicate (length image) notGiven) (r : ReadHex) (image₂ : List ℕ) (o : LinesRead (d .words) text image₁ (r .number) (r .line) image₂) where
-        read-is : readOf d text image ≡ outcome (d .words) text image₁
+      module _ (short : length text ≤ mostText) (image₁ : List ℕ) (c₁ : image₁ ≡ replicate (length image) notGiven) (r : ReadHex) (image₂ : List ℕ)
+          (o : LinesRead (d .words) text image₁ (r .number) (r .line) image₂) where
+        read-is : textRead d text image ≡ outcome (d .words) text image₁
         read-is =
             read-begins short
             ∙ ap (λ l. readLines (d .words) (linesOf text) 1 (reading false 0 l 0)) (sym (cleared image₁ c₁))

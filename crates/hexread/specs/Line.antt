@@ -2,9 +2,9 @@
 use Prim.Native.Nat.{ℕ, zero, suc, _+_, _*_, _%_}
 use mathlib.Core.Bool.{Bool, _&&_, _||_, not}
 use mathlib.Core.List.{List}
-use lib.Dec.{ltb, leb, eqb}
+use lib.Dec.{ltb, eqb}
 use lib.ListN.{length, getD}
-use Rattle.words.specs.Choice.{pick}
+use Rattle.words.specs.Choice.{unless}
 use Rattle.words.specs.Lists.{every}
 use Rattle.numerals.specs.Hex.{digitOf, byteBy}
 
@@ -55,9 +55,9 @@ dataOk line = not (eqb (typeOf line) 0) || (eqb (offsetOf line % 2) 0 && eqb (co
 -- 0 for a sound record, or the first of 2 to 6 that holds
 unfoldable pub lineNumber : List ℕ → ℕ
 lineNumber line =
-    pick (isRecord line)
-    (pick (sumOk line)
-    (pick (typeOk line)
-    (pick (shapeOk line)
-    (pick (dataOk line) 0
-    6) 5) 4) 3) 2
+    unless (isRecord line) 2
+    (unless (sumOk line) 3
+    (unless (typeOk line) 4
+    (unless (shapeOk line) 5
+    (unless (dataOk line) 6
+    0))))

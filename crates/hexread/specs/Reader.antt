@@ -1,20 +1,19 @@
 -- Reading HEX text into an image ('HEX text'; refusals 13, 12, 1, then line by line 11, 2 to 9, last 10).
 use Prim.Native.Nat.{ℕ, zero, suc, _+_, _*_, _/_}
 use mathlib.Core.Path.{_≡_}
-use mathlib.Core.Bool.{Bool, true, false, _&&_, _||_, not}
+use mathlib.Core.Bool.{Bool, true, false}
 use mathlib.Core.List.{List, [], _∷_}
-use lib.Dec.{ltb, leb, eqb}
+use lib.Dec.{leb, eqb}
 use lib.ListN.{length, getD, set, replicate}
-use Rattle.words.specs.Choice.{pick}
+use Rattle.words.specs.Choice.{pick, unless}
 use Rattle.words.specs.Word.{notGiven, isWord}
-use Rattle.words.specs.Lists.{inRange}
 use Rattle.words.specs.Address.{configBase, halved, entryOf}
 use Rattle.words.specs.declared.ByteAddress.{ByteAddress}
 use Rattle.words.specs.declared.Place.{Place}
 use Rattle.words.specs.declared.Place.the-variants.{At, Nowhere}
 use Rattle.device.specs.declared.Device.{Device}
 use Rattle.device.specs.Record.{deviceOk}
-use Rattle.device.specs.Memory.{readingTail}
+use Rattle.device.specs.Memory.{readingTail, programmable}
 use Rattle.lines.specs.Lines.{linesOf}
 use Rattle.hexread.specs.Line.{byteAt, countOf, offsetOf, typeOf, lineNumber}
 use Rattle.hexread.specs.declared.ReadHex.{ReadHex}
@@ -41,17 +40,13 @@ entryAt words Nowhere = words + readingTail
 unfoldable pub entryOfWord : (words upper : ℕ) → List ℕ → ℕ → ℕ
 entryOfWord words upper line j = entryAt words (halved (byteAddress upper line j))
 
--- a program word, a user ID or a configuration word
-unfoldable pub canGive : (words entry : ℕ) → Bool
-canGive words entry = ltb entry (words + readingTail) && not (inRange (words + 4) 3 entry)
-
 -- 0 for a word that is given, or the first of 7, 8, 9 that holds
 unfoldable pub wordNumber : (words upper : ℕ) → List ℕ → (image : List ℕ) → ℕ → ℕ
 wordNumber words upper line image j =
-    pick (canGive words (entryOfWord words upper line j))
-    (pick (isWord (wordOf line j))
-    (pick (eqb (getD image (entryOfWord words upper line j) notGiven) notGiven) 0
-    9) 8) 7
+    unless (programmable words (entryOfWord words upper line j)) 7
+    (unless (isWord (wordOf line j)) 8
+    (unless (eqb (getD image (entryOfWord words upper line j) notGiven) notGiven) 9
+    0))
 
 -- ---- reading as a fold over the lines
 
@@ -66,9 +61,8 @@ pub record Reading : Type 0 where
 unfoldable pub giveWords : (words upper : ℕ) → List ℕ → (image : List ℕ) → (j n : ℕ) → Reading
 giveWords words upper line image j zero = record { ended = false; upper = upper; image = image; number = 0 }
 giveWords words upper line image j (suc n) =
-    pick (eqb (wordNumber words upper line image j) 0)
+    unless (eqb (wordNumber words upper line image j) 0) (record { ended = false; upper = upper; image = image; number = wordNumber words upper line image j })
     (giveWords words upper line (set image (entryOfWord words upper line j) (wordOf line j)) (j + 1) n)
-    (record { ended = false; upper = upper; image = image; number = wordNumber words upper line image j })
 
 -- a sound record: data gives its words, 01 is the end, 04 sets the upper half
 unfoldable pub recordStep : (words : ℕ) → List ℕ → Reading → Reading
@@ -86,8 +80,8 @@ unfoldable pub lineStep : (words : ℕ) → List ℕ → Reading → Reading
 lineStep words line r =
     pick (eqb (length line) 0) r
     (pick (r .ended) (lineRefused 11 r)
-    (pick (eqb (lineNumber line) 0) (recordStep words line r)
-    (lineRefused (lineNumber line) r)))
+    (unless (eqb (lineNumber line) 0) (lineRefused (lineNumber line) r)
+    (recordStep words line r)))
 
 -- every entry 'not given'
 unfoldable pub blankImage : (words : ℕ) → List ℕ
@@ -105,9 +99,10 @@ refusedAt words number line = record { number = number; line = line; image = bla
 
 -- all lines, the first of them line k, until one is refused; 10 at line 0 if no end record came
 unfoldable pub readLines : (words : ℕ) → List (List ℕ) → (k : ℕ) → Reading → Outcome
-readLines words [] k r = pick (r .ended) (record { number = 0; line = 0; image = r .image }) (refusedAt words 10 0)
+readLines words [] k r = unless (r .ended) (refusedAt words 10 0) (record { number = 0; line = 0; image = r .image })
 readLines words (l ∷ ls) k r =
-    pick (eqb (lineStep words l r .number) 0) (readLines words ls (k + 1) (lineStep words l r)) (refusedAt words (lineStep words l r .number) k)
+    unless (eqb (lineStep words l r .number) 0) (refusedAt words (lineStep words l r .number) k)
+    (readLines words ls (k + 1) (lineStep words l r))
 
 -- before the first line
 unfoldable pub begun : (words : ℕ) → Reading
@@ -115,21 +110,18 @@ begun words = record { ended = false; upper = 0; image = blankImage words; numbe
 
 -- ---- the call: 13 and 12 leave the buffer, 1 clears it
 
-unfoldable pub readOf : Device → (text image : List ℕ) → Outcome
-readOf d text image =
-    pick (deviceOk d)
-    (pick (eqb (length image) (d .words + readingTail))
-    (pick (leb (length text) mostText)
-    (readLines (d .words) (linesOf text) 1 (begun (d .words)))
-    (refusedAt (d .words) 1 0))
-    (record { number = 12; line = 0; image = image }))
-    (record { number = 13; line = 0; image = image })
+unfoldable pub textRead : Device → (text image : List ℕ) → Outcome
+textRead d text image =
+    unless (deviceOk d) (record { number = 13; line = 0; image = image })
+    (unless (eqb (length image) (d .words + readingTail)) (record { number = 12; line = 0; image = image })
+    (unless (leb (length text) mostText) (refusedAt (d .words) 1 0)
+    (readLines (d .words) (linesOf text) 1 (begun (d .words)))))
 
 -- what the call answers
 unfoldable pub readAnswer : Device → (text image : List ℕ) → ReadHex
-readAnswer d text image = record { number = readOf d text image .number; line = readOf d text image .line }
+readAnswer d text image = record { number = textRead d text image .number; line = textRead d text image .line }
 
 -- what the call promises: its answer, and the image that it leaves
 pub record HexRead (d : Device) (text image : List ℕ) (r : ReadHex) (image′ : List ℕ) : Type 0 where
   pub answer : r ≡ readAnswer d text image
-  pub image-is : image′ ≡ readOf d text image .image
+  pub image-is : image′ ≡ textRead d text image .image

@@ -1,5 +1,6 @@
 // The words of a data record, given to an image one after another.
 use crate::line::offset_of;
+use device::READING_TAIL;
 use words::ByteAddress;
 use words::CONFIG_BASE;
 use words::NOT_GIVEN;
@@ -11,15 +12,16 @@ ghost use mathlib.Core.Bool.{false};
 ghost use mathlib.Core.List.{List};
 ghost use Prim.Native.Nat.{ℕ, _+_, _*_, _/_, _<_};
 ghost use lib.ListN.{length, getD};
+ghost use Rattle.device.specs.Memory.{readingTail};
 ghost use Rattle.hexread.specs.Line.{countOf};
-ghost use Rattle.hexread.specs.Reader.{entryAt, canGive, giveWords};
+ghost use Rattle.hexread.specs.Reader.{entryAt, giveWords};
 ghost use Rattle.hexread.specs.LawsDecode.{Sound};
 ghost use Rattle.hexread.specs.LawsGive.{reading};
 ghost use Rattle.hexread.specs.LawsGiveProgram.{FirstEntry};
 
 // Gives words until one is refused: 0, or the first of 7, 8, 9 that holds, whatever line the bytes are those of.
 pub(crate) fn give_words(words: u16, upper: u32, bytes: &[u8], image: &mut [u16]) -> u8
-    requires { ⌜ (length (now bytes) ≡ 260) × (length (now image) ≡ words + 9) ⌝ }
+    requires { ⌜ (length (now bytes) ≡ 260) × (length (now image) ≡ words + readingTail) ⌝ }
     ensures { λ r. ⌜ ((line : List ℕ) → Sound line (now (bytes .entry)) → reading false upper (now (image .exit)) r ≡ giveWords words upper line (now (image .entry)) 0 (countOf line / 2)) ⌝ }
 {
     let offset = offset_of(bytes);
@@ -27,7 +29,7 @@ pub(crate) fn give_words(words: u16, upper: u32, bytes: &[u8], image: &mut [u16]
     let mut j: u8 = 0;
     while j < n {
         let entry = entry_at(words, words::address::halve(byte_address(upper, offset, j)));
-        if can_give(words, entry) {} else {
+        if device::programmable(words, entry) {} else {
             return 7;
         }
         let word = word_of(bytes, j);
@@ -55,23 +57,14 @@ fn entry_at(words: u16, place: Place) -> usize
     ensures { λ r. ⌜ r ≡ entryAt words place ⌝ }
 {
     match place {
-        Place::At(a) => words::address::entry_of(WordAddress(CONFIG_BASE), words, 9, a),
-        Place::Nowhere => (words as usize) + 9,
+        Place::At(a) => words::address::entry_of(
+            WordAddress(CONFIG_BASE),
+            words,
+            READING_TAIL as u8,
+            a,
+        ),
+        Place::Nowhere => (words as usize) + READING_TAIL,
     }
-}
-
-// Whether an entry is a program word's, a user ID's or a configuration word's.
-fn can_give(words: u16, entry: usize) -> bool
-    ensures { λ r. ⌜ r ≡ canGive words entry ⌝ }
-{
-    let program = words as usize;
-    if program + 9 <= entry {
-        return false;
-    }
-    if entry < program + 4 {
-        return true;
-    }
-    program + 7 <= entry
 }
 
 // Word j of a record's bytes.

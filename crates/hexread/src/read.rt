@@ -3,12 +3,14 @@ use crate::MOST_TEXT;
 use crate::ReadHex;
 use crate::step::take_line;
 use device::Device;
+use device::READING_TAIL;
 use lines::line_from;
 use words::NOT_GIVEN;
 ghost use mathlib.Core.Path.{_≡_};
 ghost use Prim.Native.Nat.{_+_, _≤_};
 ghost use lib.ListN.{length, replicate};
 ghost use Rattle.words.specs.Word.{notGiven};
+ghost use Rattle.device.specs.Memory.{readingTail};
 ghost use Rattle.hexread.specs.Reader.{mostText, HexRead};
 ghost use Rattle.hexread.specs.LawsReader.{LinesRead};
 
@@ -22,7 +24,7 @@ pub fn read_hex(d: Device, text: &[u8], image: &mut [u16]) -> ReadHex
             line: 0,
         };
     }
-    if image.len() != (d.words as usize) + 9 {
+    if image.len() != (d.words as usize) + READING_TAIL {
         return ReadHex {
             number: 12,
             line: 0,
@@ -41,7 +43,7 @@ pub fn read_hex(d: Device, text: &[u8], image: &mut [u16]) -> ReadHex
 
 // The lines of a text until one is refused, with one table and one record's bytes for all of them; 10 if no end record came.
 fn read_lines(words: u16, text: &[u8], image: &mut [u16]) -> ReadHex
-    requires { ⌜ (length (now image) ≡ words + 9) × (length (now text) ≤ mostText) ⌝ }
+    requires { ⌜ (length (now image) ≡ words + readingTail) × (length (now text) ≤ mostText) ⌝ }
     ensures { λ r. ⌜ LinesRead words (now (text .entry)) (now (image .entry)) (r .number) (r .line) (now (image .exit)) ⌝ }
 {
     let digits = numerals::hex::digits();

@@ -10,6 +10,7 @@ ghost use Prim.Native.Nat.{ℕ, _+_};
 ghost use lib.ListN.{length};
 ghost use Rattle.words.specs.Lists.{build};
 ghost use Rattle.numerals.specs.Hex.{digitOf};
+ghost use Rattle.device.specs.Memory.{readingTail};
 ghost use Rattle.hexread.specs.Reader.{recordStep, lineStep};
 ghost use Rattle.hexread.specs.LawsDecode.{Sound};
 ghost use Rattle.hexread.specs.LawsGive.{reading, Gives};
@@ -31,7 +32,7 @@ pub(crate) fn take_line(
     bytes: &mut [u8],
     image: &mut [u16],
 ) -> Step
-    requires { ⌜ (now digits ≡ build 256 digitOf) × (length (now bytes) ≡ 260) × (length (now image) ≡ words + 9) ⌝ }
+    requires { ⌜ (now digits ≡ build 256 digitOf) × (length (now bytes) ≡ 260) × (length (now image) ≡ words + readingTail) ⌝ }
     ensures { λ r. ⌜ reading (r .ended) (r .upper) (now (image .exit)) (r .number) ≡ lineStep words (now (line .entry)) (reading ended upper (now (image .entry)) 0) ⌝ }
 {
     if line.len() == 0 {
@@ -61,7 +62,7 @@ pub(crate) fn take_line(
 
 // A sound record, whatever line it was decoded from: data gives its words, the end is noted, an upper half is kept for what follows.
 fn take_record(words: u16, bytes: &[u8], upper: u32, image: &mut [u16]) -> Step
-    requires { ⌜ (length (now bytes) ≡ 260) × (length (now image) ≡ words + 9) ⌝ }
+    requires { ⌜ (length (now bytes) ≡ 260) × (length (now image) ≡ words + readingTail) ⌝ }
     ensures { λ r. ⌜ ((line : List ℕ) → Sound line (now (bytes .entry)) → reading (r .ended) (r .upper) (now (image .exit)) (r .number) ≡ recordStep words line (reading false upper (now (image .entry)) 0)) ⌝ }
 {
     let kind = bytes[3];
@@ -91,7 +92,7 @@ fn take_record(words: u16, bytes: &[u8], upper: u32, image: &mut [u16]) -> Step
 
 // The words of a data record, by the short way where all of them lie in program space.
 fn give_record(words: u16, upper: u32, bytes: &[u8], image: &mut [u16]) -> u8
-    requires { ⌜ (length (now bytes) ≡ 260) × (length (now image) ≡ words + 9) ⌝ }
+    requires { ⌜ (length (now bytes) ≡ 260) × (length (now image) ≡ words + readingTail) ⌝ }
     ensures { λ r. ⌜ Gives words upper (now (bytes .entry)) (now (image .entry)) (now (image .exit)) r ⌝ }
 {
     let first = first_entry(words, upper, bytes);

@@ -47,8 +47,8 @@ unfoldable pub whole : List ℕ → List ℕ
 whole l = l ++ (sumByte l ∷ [])
 
 -- the line without its LF
-unfoldable pub lineOf : List ℕ → List ℕ
-lineOf l = 0x3a ∷ digitsOf (whole l)
+unfoldable pub recordLine : List ℕ → List ℕ
+recordLine l = 0x3a ∷ digitsOf (whole l)
 
 digits-append : (l m : List ℕ) → digitsOf (l ++ m) ≡ digitsOf l ++ digitsOf m
 unfolding digitsOf
@@ -59,8 +59,8 @@ digits-one : (b : ℕ) → digitsOf (b ∷ []) ≡ byteText b
 unfolding digitsOf
 digits-one b = append-nil (byteText b)
 
-pub record-line : (l rest : List ℕ) → recordText l ++ rest ≡ lineOf l ++ (lf ∷ rest)
-unfolding recordText lineOf whole sumByte
+pub record-line : (l rest : List ℕ) → recordText l ++ rest ≡ recordLine l ++ (lf ∷ rest)
+unfolding recordText recordLine whole sumByte
 record-line l rest =
     let s : List ℕ = byteText ((256 - sumOf l % 256) % 256) in
     let last : digitsOf ((256 - sumOf l % 256) % 256 ∷ []) ≡ s = digits-one ((256 - sumOf l % 256) % 256) in
@@ -93,8 +93,8 @@ unfolding digitsOf byteText
 digits-printed [] = tt
 digits-printed (b ∷ l) = (digit-printed (b / 16), (digit-printed (b % 16), digits-printed l))
 
-line-printed : (l : List ℕ) → Printed (lineOf l)
-unfolding lineOf
+line-printed : (l : List ℕ) → Printed (recordLine l)
+unfolding recordLine
 line-printed l = (omega arith, digits-printed (whole l))
 
 split-printed : (l rest : List ℕ) → Printed l → split lf (l ++ (lf ∷ rest)) ≡ l ∷ split lf rest
@@ -109,12 +109,12 @@ kept-printed (c ∷ []) p = rw (ne-eqb c cr (λ e. omega (arith, p .0)))
 kept-printed (c ∷ b ∷ l) p = ap (λ t. c ∷ t) (kept-printed (b ∷ l) (p .1))
 
 -- a record is the first line, and what follows it are the other lines
-pub lines-record : (l rest : List ℕ) → linesOf (recordText l ++ rest) ≡ lineOf l ∷ linesOf rest
+pub lines-record : (l rest : List ℕ) → linesOf (recordText l ++ rest) ≡ recordLine l ∷ linesOf rest
 unfolding linesOf allWithoutCr
 lines-record l rest =
     ap (λ t. allWithoutCr (split lf t)) (record-line l rest)
-    ∙ (ap allWithoutCr (split-printed (lineOf l) rest (line-printed l))
-    ∙ ap (λ t. t ∷ allWithoutCr (split lf rest)) (kept-printed (lineOf l) (line-printed l)))
+    ∙ (ap allWithoutCr (split-printed (recordLine l) rest (line-printed l))
+    ∙ ap (λ t. t ∷ allWithoutCr (split lf rest)) (kept-printed (recordLine l) (line-printed l)))
 
 -- ---- a record's bytes
 
@@ -176,37 +176,37 @@ whole-at l j h = List·getD-append l (sumByte l ∷ []) 0 j h
 
 -- byte j of a record's line
 module _ (l : List ℕ) (bs : Bytes l) where
-  pub line-byte : (j : ℕ) → j < length l → byteAt (lineOf l) j ≡ getD l j 0
-  unfolding lineOf
+  pub line-byte : (j : ℕ) → j < length l → byteAt (recordLine l) j ≡ getD l j 0
+  unfolding recordLine
   line-byte j h = byte-back (whole l) j (whole-bytes l bs) (rw length-whole (omega arith)) ∙ whole-at l j h
 
-  line-bytes : (j : ℕ) → j < length l + 1 → byteAt (lineOf l) j < 256
-  unfolding lineOf
+  line-bytes : (j : ℕ) → j < length l + 1 → byteAt (recordLine l) j < 256
+  unfolding recordLine
   line-bytes j h = rw (byte-back (whole l) j (whole-bytes l bs) (rw length-whole h)) (bytes-at (whole l) (whole-bytes l bs) j)
 
-  line-sum : bytesTo (length l + 1) (lineOf l) % 256 ≡ 0
-  unfolding lineOf
+  line-sum : bytesTo (length l + 1) (recordLine l) % 256 ≡ 0
+  unfolding recordLine
   line-sum =
       let n : length (whole l) ≡ length l + 1 = length-whole l in
       let all : bytesTo (length l + 1) (0x3a ∷ digitsOf (whole l)) ≡ sumOf (take (length l + 1) (whole l)) = bytes-back (whole l) (whole-bytes l bs) (length l + 1) (omega arith) in
       let full : take (length l + 1) (whole l) ≡ whole l = rw (← n) (take-length (whole l)) in
       rw (all, full) (whole-sum l)
 
-length-line : (l : List ℕ) → length (lineOf l) ≡ 1 + 2 * (length l + 1)
-unfolding lineOf
+length-line : (l : List ℕ) → length (recordLine l) ≡ 1 + 2 * (length l + 1)
+unfolding recordLine
 length-line l =
     let d : length (digitsOf (whole l)) ≡ 2 * length (whole l) = length-digits (whole l) in
     let n : length (whole l) ≡ length l + 1 = length-whole l in
     omega arith
 
-line-colon : (l : List ℕ) → getD (lineOf l) 0 0 ≡ 0x3a
-unfolding lineOf
+line-colon : (l : List ℕ) → getD (recordLine l) 0 0 ≡ 0x3a
+unfolding recordLine
 line-colon l = refl
 
 -- a record of c bytes after LL, two of address and the type
 module _ (c a b t : ℕ) (ds : List ℕ) (bs : Bytes (c ∷ a ∷ b ∷ t ∷ ds)) (long : length ds ≡ c) where
   abbrev line : List ℕ
-  line = lineOf (c ∷ a ∷ b ∷ t ∷ ds)
+  line = recordLine (c ∷ a ∷ b ∷ t ∷ ds)
 
   pub line-count : countOf line ≡ c
   unfolding countOf
@@ -232,7 +232,8 @@ module _ (c a b t : ℕ) (ds : List ℕ) (bs : Bytes (c ∷ a ∷ b ∷ t ∷ ds
   unfolding isRecord
   is-record =
       let n : length line ≡ 1 + 2 * (c + 5) = length-line (c ∷ a ∷ b ∷ t ∷ ds) ∙ omega arith in
-      let digits : every (c + 5) (λ j. ltb (byteAt line j) 256) ≡ true = every-all (c + 5) (λ j. ltb (byteAt line j) 256) (λ j h. lt-ltb (byteAt line j) 256 (line-bytes (c ∷ a ∷ b ∷ t ∷ ds) bs j (omega arith))) in
+      let digits : every (c + 5) (λ j. ltb (byteAt line j) 256) ≡ true = every-all (c + 5) (λ j. ltb (byteAt line j) 256)
+      (λ j h. lt-ltb (byteAt line j) 256 (line-bytes (c ∷ a ∷ b ∷ t ∷ ds) bs j (omega arith))) in
       rw (line-count, line-colon, lt-ltb c 256 (bs .0), eq-eqb (length line) (1 + 2 * (c + 5)) n, digits)
 
   sum-ok : sumOk line ≡ true

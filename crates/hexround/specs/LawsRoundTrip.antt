@@ -14,7 +14,7 @@ use borrow.Author.Tests.{lt-ltb, le-ltb, le-leb, leb-true, eq-eqb, ne-eqb}
 use Rattle.words.specs.Choice.{pick}
 use Rattle.words.specs.Word.{notGiven}
 use Rattle.numerals.specs.Text.{split}
-use Rattle.words.specs.Lists.{build, inRange}
+use Rattle.words.specs.Lists.{build}
 use Rattle.words.specs.Address.{configBase, addressOf, doubled}
 use Rattle.words.specs.LawsChoice.{pick-true, pick-false, decided}
 use Rattle.words.specs.LawsLists.{length-build, getD-build, built, build-ext, build-set}
@@ -23,19 +23,19 @@ use Rattle.words.specs.LawsAddress.{halved-doubled, entry-of-address}
 use Rattle.words.specs.declared.ByteAddress.{ByteAddress}
 use Rattle.device.specs.declared.Device.{Device}
 use Rattle.device.specs.Record.{mostWords, deviceOk}
-use Rattle.device.specs.Memory.{readingTail, imageOk}
+use Rattle.device.specs.Memory.{readingTail, programmable, imageOk}
 use Rattle.device.specs.LawsRecord.{Rules, rules, words-eighths}
 use Rattle.device.specs.LawsMemory.{image-long, image-each, entry-word}
 use Rattle.hexwrite.specs.declared.WrittenHex.{WrittenHex}
 use Rattle.lines.specs.Lines.{linesOf, allWithoutCr, withoutCr}
 use Rattle.hexread.specs.Line.{byteAt, countOf, offsetOf, typeOf, lineNumber}
-use Rattle.hexread.specs.Reader.{mostText, wordOf, byteAddress, entryAt, entryOfWord, canGive, wordNumber, Reading, giveWords, recordStep, lineRefused, lineStep, blankImage, Outcome, readLines, begun, readOf}
+use Rattle.hexread.specs.Reader.{mostText, wordOf, byteAddress, entryAt, entryOfWord, wordNumber, Reading, giveWords, recordStep, lineRefused, lineStep, blankImage, Outcome, readLines, begun, textRead}
 use Rattle.hexwrite.specs.Writer.{writtenHex, writtenOut, recordText, hexAddress, upperOf, wordBytes, dataBytes, upperBytes, endBytes, hexText}
 use Rattle.hexwrite.specs.LawsWrite.{upperText, refusedWith}
 use Rattle.hexwrite.specs.LawsWriteRun.{length-words, upper-same, upper-new, upper-most, hex-program, hex-config, hex-below}
 use Rattle.hexwrite.specs.LawsWriteText.{text-length}
 use Rattle.hexwrite.specs.LawsWriteRecords.{Run, Silent, Records, no-more, run, text-made}
-use Rattle.hexround.specs.LawsRoundLine.{Bytes, lineOf, lines-record, line-count, line-offset, line-type, line-data, data-sound, end-sound, upper-sound}
+use Rattle.hexround.specs.LawsRoundLine.{Bytes, recordLine, lines-record, line-count, line-offset, line-type, line-data, data-sound, end-sound, upper-sound}
 
 -- ---- the image so far
 
@@ -105,7 +105,8 @@ abbrev reading : (upper : ℕ) → List ℕ → Reading
 reading upper image = record { ended = false; upper = upper; image = image; number = 0 }
 
 -- a record's step, at every line number
-read-on : (words : ℕ) (line : List ℕ) (ls : List (List ℕ)) (k : ℕ) (r next : Reading) → (length line ≡ 0 → ⊥) → r .ended ≡ false → lineNumber line ≡ 0 → recordStep words line r ≡ next → next .number ≡ 0 → readLines words (line ∷ ls) k r ≡ readLines words ls (k + 1) next
+read-on : (words : ℕ) (line : List ℕ) (ls : List (List ℕ)) (k : ℕ) (r next : Reading) → (length line ≡ 0 → ⊥) → r .ended ≡ false → lineNumber line ≡ 0
+    → recordStep words line r ≡ next → next .number ≡ 0 → readLines words (line ∷ ls) k r ≡ readLines words ls (k + 1) next
 unfolding readLines
 read-on words line ls k r next some open-still sound step fine =
     let here : lineStep words line r ≡ next = unfold lineStep in line-step in
@@ -118,21 +119,22 @@ read-on words line ls k r next some open-still sound step fine =
         ∙ (pick-true (eqb (lineNumber line) 0) _ _ (eq-eqb (lineNumber line) 0 sound) ∙ step))
 
 -- a line has a colon
-line-some : (l : List ℕ) → length (lineOf l) ≡ 0 → ⊥
-unfolding lineOf
+line-some : (l : List ℕ) → length (recordLine l) ≡ 0 → ⊥
+unfolding recordLine
 line-some l e = omega arith
 
 -- ---- the upper half and the end
 
 -- a type 04 record sets the upper half
-read-upper : (words upper u : ℕ) (image : List ℕ) (ls : List (List ℕ)) (k : ℕ) → u ≤ 1 → readLines words (lineOf (upperBytes u) ∷ ls) k (reading upper image) ≡ readLines words ls (k + 1) (reading u image)
+read-upper : (words upper u : ℕ) (image : List ℕ) (ls : List (List ℕ)) (k : ℕ) → u ≤ 1
+    → readLines words (recordLine (upperBytes u) ∷ ls) k (reading upper image) ≡ readLines words ls (k + 1) (reading u image)
 unfolding upperBytes
 read-upper words upper u image ls k h =
     read-on words line ls k (reading upper image) (reading u image) (line-some (2 ∷ 0 ∷ 0 ∷ 4 ∷ u / 256 ∷ u % 256 ∷ [])) refl
     (upper-sound 2 0 0 4 (u / 256 ∷ u % 256 ∷ []) bs refl refl refl refl refl) step refl
   where
     line : List ℕ
-    line = lineOf (2 ∷ 0 ∷ 0 ∷ 4 ∷ u / 256 ∷ u % 256 ∷ [])
+    line = recordLine (2 ∷ 0 ∷ 0 ∷ 4 ∷ u / 256 ∷ u % 256 ∷ [])
 
     bs : Bytes (2 ∷ 0 ∷ 0 ∷ 4 ∷ u / 256 ∷ u % 256 ∷ [])
     bs = (omega arith, (omega arith, (omega arith, (omega arith, (omega arith, (omega arith, tt))))))
@@ -159,7 +161,7 @@ read-end words upper image k =
     (end-sound 0 0 0 1 [] bs refl refl refl refl refl) step refl ∙ last)
   where
     line : List ℕ
-    line = lineOf (0 ∷ 0 ∷ 0 ∷ 1 ∷ [])
+    line = recordLine (0 ∷ 0 ∷ 0 ∷ 1 ∷ [])
 
     over : Reading
     over = record { ended = true; upper = upper; image = image; number = 0 }
@@ -210,13 +212,13 @@ module _ (words : ℕ) (image : List ℕ) (s e : ℕ) (eighths : words % 8 ≡ 0
   few = let p : s < e = r .some in let q : (e - 1) / 8 ≡ s / 8 = r .block (e - 1) (omega arith) (omega arith) in omega arith
 
   -- a word of the run is given, and may be
-  word-fits : (k : ℕ) → s ≤ k → k < e → (getD image k 0 < 0x4000) × (inRange (words + 4) 3 k ≡ false)
+  word-fits : (k : ℕ) → s ≤ k → k < e → (getD image k 0 < 0x4000) × (programmable words k ≡ true)
   word-fits k p q =
-      let far : e ≤ words + 9 = r .within in
+      let far : e ≤ words + readingTail = r .within in
       entry-word words k (getD image k 0) (image-each words image ok k (omega arith)) (r .given k p q)
 
   abbrev data-line : List ℕ
-  data-line = lineOf (dataBytes words image s e)
+  data-line = recordLine (dataBytes words image s e)
 
   abbrev ds : List ℕ
   ds = wordBytes (e - s) s image
@@ -286,26 +288,26 @@ module _ (words : ℕ) (image : List ℕ) (s e : ℕ) (eighths : words % 8 ≡ 0
     entry-back : (j : ℕ) → j < e - s → entryOfWord words upper data-line j ≡ s + j
     unfolding entryOfWord entryAt
     entry-back j h =
-        let far : e ≤ words + 9 = r .within in
+        let far : e ≤ words + readingTail = r .within in
         let w : hexAddress words (s + j) ≡ 2 * addressOf configBase words (s + j) = unfold hexAddress in refl in
         let b : hexAddress words (s + j) < 0x20000 = hex-below words (s + j) m (omega arith) in
         rw (address-back j h, halved-doubled (record { 0 = addressOf configBase words (s + j) }) (omega arith))
         (entry-of-address configBase words readingTail (s + j) (omega arith) (omega arith))
 
-    can-give : (k : ℕ) → s ≤ k → k < e → canGive words k ≡ true
-    unfolding canGive
-    can-give k p q =
-        let far : e ≤ words + 9 = r .within in
-        rw (lt-ltb k (words + readingTail) (omega arith), word-fits k p q .1)
-
     -- word j is given where the entries before it are
-    number-back : (j : ℕ) → j < e - s → wordNumber words upper data-line (upTo (words + 9) image (s + j)) j ≡ 0
+    number-back : (j : ℕ) → j < e - s → wordNumber words upper data-line (upTo (words + readingTail) image (s + j)) j ≡ 0
     unfolding wordNumber pick
     number-back j h =
-        let far : e ≤ words + 9 = r .within in
-        rw (entry-back j h, can-give (s + j) (omega arith) (omega arith), word-back j h, is-word (getD image (s + j) 0) (word-fits (s + j) (omega arith) (omega arith) .0), up-to-next (words + 9) image (s + j) (omega arith))
+        let far : e ≤ words + readingTail = r .within in
+        rw (
+          entry-back j h,
+          word-fits (s + j) (omega arith) (omega arith) .1,
+          word-back j h,
+          is-word (getD image (s + j) 0) (word-fits (s + j) (omega arith) (omega arith) .0),
+          up-to-next (words + readingTail) image (s + j) (omega arith),
+        )
 
-    give-back : (n j : ℕ) → j + n ≡ e - s → giveWords words upper data-line (upTo (words + 9) image (s + j)) j n ≡ reading upper (upTo (words + 9) image e)
+    give-back : (n j : ℕ) → j + n ≡ e - s → giveWords words upper data-line (upTo (words + readingTail) image (s + j)) j n ≡ reading upper (upTo (words + readingTail) image e)
     unfolding giveWords
     give-back zero j h =
         let l : s < e = r .some in
@@ -313,23 +315,24 @@ module _ (words : ℕ) (image : List ℕ) (s e : ℕ) (eighths : words % 8 ≡ 0
         rw end
     give-back (suc n) j h =
         let next : s + j + 1 ≡ s + (j + 1) = omega arith in
-        pick-true (eqb (wordNumber words upper data-line (upTo (words + 9) image (s + j)) j) 0) _ _ (eq-eqb (wordNumber words upper data-line (upTo (words + 9) image (s + j)) j) 0 (number-back j (omega arith)))
-        ∙ (rw (entry-back j (omega arith), word-back j (omega arith), up-to-more (words + 9) image (s + j), next) (give-back n (j + 1) (omega arith)))
+        pick-true (eqb (wordNumber words upper data-line (upTo (words + readingTail) image (s + j)) j) 0) _ _
+        (eq-eqb (wordNumber words upper data-line (upTo (words + readingTail) image (s + j)) j) 0 (number-back j (omega arith)))
+        ∙ (rw (entry-back j (omega arith), word-back j (omega arith), up-to-more (words + readingTail) image (s + j), next) (give-back n (j + 1) (omega arith)))
 
-    step-back : recordStep words data-line (reading upper (upTo (words + 9) image s)) ≡ reading upper (upTo (words + 9) image e)
+    step-back : recordStep words data-line (reading upper (upTo (words + readingTail) image s)) ≡ reading upper (upTo (words + readingTail) image e)
     unfolding recordStep pick
     step-back =
         let l : s < e = r .some in
         let half-count : 2 * (e - s) / 2 ≡ e - s = omega arith in
         let start : s ≡ s + 0 = omega arith in
-        let z : giveWords words upper data-line (upTo (words + 9) image (s + 0)) 0 (e - s) ≡ reading upper (upTo (words + 9) image e) = give-back (e - s) 0 (omega arith) in
-        let z′ : giveWords words upper data-line (upTo (words + 9) image s) 0 (e - s) ≡ reading upper (upTo (words + 9) image e) = rw (← start) at z in
+        let z : giveWords words upper data-line (upTo (words + readingTail) image (s + 0)) 0 (e - s) ≡ reading upper (upTo (words + readingTail) image e) = give-back (e - s) 0 (omega arith) in
+        let z′ : giveWords words upper data-line (upTo (words + readingTail) image s) 0 (e - s) ≡ reading upper (upTo (words + readingTail) image e) = rw (← start) at z in
         rw (type-back, count-back, half-count) z′
 
     -- the record's line gives the run
-    read-data : (ls : List (List ℕ)) (k : ℕ) → readLines words (data-line ∷ ls) k (reading upper (upTo (words + 9) image s)) ≡ readLines words ls (k + 1) (reading upper (upTo (words + 9) image e))
+    read-data : (ls : List (List ℕ)) (k : ℕ) → readLines words (data-line ∷ ls) k (reading upper (upTo (words + readingTail) image s)) ≡ readLines words ls (k + 1) (reading upper (upTo (words + readingTail) image e))
     read-data ls k =
-        read-on words data-line ls k (reading upper (upTo (words + 9) image s)) (reading upper (upTo (words + 9) image e))
+        read-on words data-line ls k (reading upper (upTo (words + readingTail) image s)) (reading upper (upTo (words + readingTail) image e))
         (line-some (dataBytes words image s e)) refl data-fine step-back refl
 
 -- ---- the whole text
@@ -337,35 +340,38 @@ module _ (words : ℕ) (image : List ℕ) (s e : ℕ) (eighths : words % 8 ≡ 0
 module _ (words : ℕ) (image : List ℕ) (eighths : words % 8 ≡ 0) (m : words ≤ mostWords) (ok : imageOk words image ≡ true) where
   -- a run's lines: the upper half where it changes, and the data
   read-run : (upper s e : ℕ) (rest : List ℕ) → Run words image s e → Dec (upperOf words s ≡ upper)
-      → ((k : ℕ) → readLines words (linesOf rest) k (reading (upperOf words s) (upTo (words + 9) image e)) ≡ record { number = 0; line = 0; image = image })
-      → (k : ℕ) → readLines words (linesOf (upperText upper (upperOf words s) ++ (recordText (dataBytes words image s e) ++ rest))) k (reading upper (upTo (words + 9) image s)) ≡ record { number = 0; line = 0; image = image }
+      → ((k : ℕ) → readLines words (linesOf rest) k (reading (upperOf words s) (upTo (words + readingTail) image e)) ≡ record { number = 0; line = 0; image = image })
+      → (k : ℕ) → readLines words (linesOf (upperText upper (upperOf words s) ++ (recordText (dataBytes words image s e) ++ rest))) k
+      (reading upper (upTo (words + readingTail) image s)) ≡ record { number = 0; line = 0; image = image }
   read-run upper s e rest r (yes same) next k =
       rw (upper-same upper (upperOf words s) same, lines-record (dataBytes words image s e) rest, ← same)
       (read-data words image s e eighths m ok r (upperOf words s) refl (linesOf rest) k ∙ next (k + 1))
   read-run upper s e rest r (no new) next k =
-      let far : e ≤ words + 9 = r .within in
+      let far : e ≤ words + readingTail = r .within in
       let l : s < e = r .some in
       rw (upper-new upper (upperOf words s) new, lines-record (upperBytes (upperOf words s)) (recordText (dataBytes words image s e) ++ rest), lines-record (dataBytes words image s e) rest)
-      (read-upper words upper (upperOf words s) (upTo (words + 9) image s) (lineOf (dataBytes words image s e) ∷ linesOf rest) k (upper-most words s m (omega arith))
+      (read-upper words upper (upperOf words s) (upTo (words + readingTail) image s) (recordLine (dataBytes words image s e) ∷ linesOf rest) k (upper-most words s m (omega arith))
       ∙ (read-data words image s e eighths m ok r (upperOf words s) refl (linesOf rest) (k + 1) ∙ next (k + 1 + 1)))
 
-  read-records : {from upper : ℕ} {text : List ℕ} → Records words image from upper text → (k : ℕ) → readLines words (linesOf (text ++ recordText endBytes)) k (reading upper (upTo (words + 9) image from)) ≡ record { number = 0; line = 0; image = image }
+  read-records : {from upper : ℕ} {text : List ℕ} → Records words image from upper text → (k : ℕ)
+      → readLines words (linesOf (text ++ recordText endBytes)) k (reading upper (upTo (words + readingTail) image from)) ≡ record { number = 0; line = 0; image = image }
   read-records {from} {upper} (no-more silent) k =
-      rw (up-to-all (words + 9) image (image-long words image ok) from silent) (read-end words upper image k)
+      rw (up-to-all (words + readingTail) image (image-long words image ok) from silent) (read-end words upper image k)
   read-records {from} {upper} (run {rest = rest} s e low silent r more) k =
       let whole : List ℕ = upperText upper (upperOf words s) ++ recordText (dataBytes words image s e) in
       let parts : (whole ++ rest) ++ recordText endBytes ≡ upperText upper (upperOf words s) ++ (recordText (dataBytes words image s e) ++ (rest ++ recordText endBytes)) =
       append-assoc whole rest (recordText endBytes) ∙ append-assoc (upperText upper (upperOf words s)) (recordText (dataBytes words image s e)) (rest ++ recordText endBytes) in
-      rw (parts, up-to-silent (words + 9) image from s low silent)
+      rw (parts, up-to-silent (words + readingTail) image from s low silent)
       (read-run upper s e (rest ++ recordText endBytes) r (ℕ-discrete (upperOf words s) upper) (λ j. read-records more j) k)
 
   read-text : (k : ℕ) → readLines words (linesOf (hexText words image)) k (begun words) ≡ record { number = 0; line = 0; image = image }
   unfolding hexText begun blankImage
-  read-text k = rw (up-to-none (words + 9) image) (read-records (text-made words image) k)
+  read-text k = rw (up-to-none (words + readingTail) image) (read-records (text-made words image) k)
 
 -- every image that a device may have is read back from its text, into any buffer of its length
-pub round-trip : (d : Device) (image buffer : List ℕ) → deviceOk d ≡ true → imageOk (d .words) image ≡ true → length buffer ≡ d .words + 9 → readOf d (hexText (d .words) image) buffer ≡ record { number = 0; line = 0; image = image }
-unfolding readOf
+pub round-trip : (d : Device) (image buffer : List ℕ) → deviceOk d ≡ true → imageOk (d .words) image ≡ true → length buffer ≡ d .words + readingTail
+    → textRead d (hexText (d .words) image) buffer ≡ record { number = 0; line = 0; image = image }
+unfolding textRead
 round-trip d image buffer sound ok long =
     let keeps : Rules d = rules d sound in
     let short : length (hexText (d .words) image) ≤ 14 * d .words + 156 = text-length (d .words) image (keeps .most) in
@@ -375,19 +381,20 @@ round-trip d image buffer sound ok long =
     ∙ read-text (d .words) image (words-eighths d keeps) (keeps .most) ok 1))
 
 -- a text that was read without refusal had a sound record
-read-sound : (d : Device) (text buffer : List ℕ) → readOf d text buffer .number ≡ 0 → deviceOk d ≡ true
+read-sound : (d : Device) (text buffer : List ℕ) → textRead d text buffer .number ≡ 0 → deviceOk d ≡ true
 read-sound d text buffer e = ⊎-elim (λ t. t) (λ f. absurd (refused f)) (decided (deviceOk d))
   where
     refused : deviceOk d ≡ false → ⊥
     refused f =
-        let n : readOf d text buffer .number ≡ 13 = unfold readOf in ap (λ (o : Outcome). o .number) (pick-false (deviceOk d) _ (record { number = 13; line = 0; image = buffer }) f) in
+        let n : textRead d text buffer .number ≡ 13 = unfold textRead in ap (λ (o : Outcome). o .number) (pick-false (deviceOk d) _ (record { number = 13; line = 0; image = buffer }) f) in
         omega arith
 
 -- the other way round: what was read is read again from the text that is written of it. `ok`: a text that is read without
 -- refusal leaves a sound image
-pub read-again : (d : Device) (text buffer other : List ℕ) → readOf d text buffer .number ≡ 0 → (ok : imageOk (d .words) (readOf d text buffer .image) ≡ true) → length other ≡ d .words + 9
-    → readOf d (hexText (d .words) (readOf d text buffer .image)) other ≡ record { number = 0; line = 0; image = readOf d text buffer .image }
-read-again d text buffer other e ok long = round-trip d (readOf d text buffer .image) other (read-sound d text buffer e) ok long
+pub read-again : (d : Device) (text buffer other : List ℕ) → textRead d text buffer .number ≡ 0 → (ok : imageOk (d .words) (textRead d text buffer .image) ≡ true)
+    → length other ≡ d .words + readingTail
+    → textRead d (hexText (d .words) (textRead d text buffer .image)) other ≡ record { number = 0; line = 0; image = textRead d text buffer .image }
+read-again d text buffer other e ok long = round-trip d (textRead d text buffer .image) other (read-sound d text buffer e) ok long
 
 -- ---- of the calls' own answers
 
@@ -431,7 +438,8 @@ written-text d image out e = rw (long, stored) (take-at (hexText (d .words) imag
         ∙ sets-eq (hexText (d .words) image) out 0 (let f : length (hexText (d .words) image) ≤ length out = fine .fits in omega arith)
 
 -- and they are read back as the image that was written
-pub written-read : (d : Device) (image out buffer : List ℕ) → writtenHex d image out .number ≡ 0 → length buffer ≡ d .words + 9 → readOf d (take (writtenHex d image out .length) (writtenOut d image out)) buffer ≡ record { number = 0; line = 0; image = image }
+pub written-read : (d : Device) (image out buffer : List ℕ) → writtenHex d image out .number ≡ 0 → length buffer ≡ d .words + readingTail
+    → textRead d (take (writtenHex d image out .length) (writtenOut d image out)) buffer ≡ record { number = 0; line = 0; image = image }
 written-read d image out buffer e long =
     let f : Fine d image out = written-fine d image out e in
     rw (written-text d image out e) (round-trip d image buffer (f .sound) (f .ok) long)

@@ -92,11 +92,12 @@ unfoldable pub headText : (count high low kind : ℕ) → List ℕ
 headText count high low kind = 0x3a ∷ digitsOf (count ∷ high ∷ low ∷ kind ∷ [])
 
 -- the byte that makes a record sum to 0 mod 256, and LF
-unfoldable pub sumText : ℕ → List ℕ
-sumText sum = byteText ((256 - sum % 256) % 256) ++ lf ∷ []
+unfoldable pub closingText : ℕ → List ℕ
+closingText sum = byteText ((256 - sum % 256) % 256) ++ lf ∷ []
 
-record-parts : (count high low kind : ℕ) (body : List ℕ) → recordText (count ∷ high ∷ low ∷ kind ∷ body) ≡ headText count high low kind ++ (digitsOf body ++ sumText (count + (high + (low + (kind + sumOf body)))))
-unfolding recordText headText sumText digitsOf sumOf byteText
+record-parts : (count high low kind : ℕ) (body : List ℕ)
+    → recordText (count ∷ high ∷ low ∷ kind ∷ body) ≡ headText count high low kind ++ (digitsOf body ++ closingText (count + (high + (low + (kind + sumOf body)))))
+unfolding recordText headText closingText digitsOf sumOf byteText
 record-parts count high low kind body = refl
 
 pub length-digits : (l : List ℕ) → length (digitsOf l) ≡ 2 * length l
@@ -127,7 +128,8 @@ pub pair-put : (capitals out : List ℕ) (at b : ℕ) → capitals ≡ build 16 
 unfolding byteText
 pair-put capitals out at b e h = rw (table-capital capitals (b / 16) e (omega arith), table-capital capitals (b % 16) e (omega arith), add-one at)
 
-pub head-put : (count high low kind at : ℕ) (out m₁ m₂ m₃ m₄ : List ℕ) → m₁ ≡ sets (set out at 0x3a) (at + 1) (byteText count) → m₂ ≡ sets m₁ (at + 3) (byteText high) → m₃ ≡ sets m₂ (at + 5) (byteText low) → m₄ ≡ sets m₃ (at + 7) (byteText kind) → Wrote (headText count high low kind) at out (at + 9) m₄
+pub head-put : (count high low kind at : ℕ) (out m₁ m₂ m₃ m₄ : List ℕ) → m₁ ≡ sets (set out at 0x3a) (at + 1) (byteText count) → m₂ ≡ sets m₁ (at + 3) (byteText high)
+    → m₃ ≡ sets m₂ (at + 5) (byteText low) → m₄ ≡ sets m₃ (at + 7) (byteText kind) → Wrote (headText count high low kind) at out (at + 9) m₄
 unfolding headText digitsOf byteText
 head-put count high low kind at out m₁ m₂ m₃ m₄ e₁ e₂ e₃ e₄ =
     let p₁ : at + 1 ≡ suc at = omega arith in
@@ -136,17 +138,19 @@ head-put count high low kind at out m₁ m₂ m₃ m₄ e₁ e₂ e₃ e₄ =
     let p₇ : at + 7 ≡ suc (suc (suc (suc (suc (suc (suc at)))))) = omega arith in
     record { bytes = rw (e₄, e₃, e₂, e₁, p₁, p₃, p₅, p₇); end = refl }
 
-pub sum-put : (sum at : ℕ) (out m : List ℕ) → m ≡ sets out at (byteText ((256 - sum % 256) % 256)) → Wrote (sumText sum) at out (at + 3) (set m (at + 2) lf)
-unfolding sumText byteText
+pub sum-put : (sum at : ℕ) (out m : List ℕ) → m ≡ sets out at (byteText ((256 - sum % 256) % 256)) → Wrote (closingText sum) at out (at + 3) (set m (at + 2) lf)
+unfolding closingText byteText
 sum-put sum at out m e = let two : at + 2 ≡ suc (suc at) = omega arith in record { bytes = rw (e, two); end = refl }
 
-pub record-put : (count high low kind : ℕ) (body : List ℕ) (at next sum : ℕ) (out m₁ m₂ : List ℕ) (r : ℕ) (after : List ℕ) → Wrote (headText count high low kind) at out next m₁ → m₂ ≡ sets m₁ next (digitsOf body)
-    → (place : ℕ) → place ≡ next + 2 * length body → sum ≡ count + (high + (low + (kind + sumOf body))) → Wrote (sumText sum) place m₂ r after → Wrote (recordText (count ∷ high ∷ low ∷ kind ∷ body)) at out r after
+pub record-put : (count high low kind : ℕ) (body : List ℕ) (at next sum : ℕ) (out m₁ m₂ : List ℕ) (r : ℕ) (after : List ℕ)
+    → Wrote (headText count high low kind) at out next m₁ → m₂ ≡ sets m₁ next (digitsOf body)
+    → (place : ℕ) → place ≡ next + 2 * length body → sum ≡ count + (high + (low + (kind + sumOf body))) → Wrote (closingText sum) place m₂ r after → Wrote
+    (recordText (count ∷ high ∷ low ∷ kind ∷ body)) at out r after
 record-put count high low kind body at next sum out m₁ m₂ r after w e place p q v =
     let all = left-as at out (record-parts count high low kind body) in
     let put : Wrote (digitsOf body) next m₁ place m₂ = record { bytes = e; end = p ∙ ap (λ n. next + n) (sym (length-digits body)) } in
-    let last : Wrote (sumText (count + (high + (low + (kind + sumOf body))))) place m₂ r after = rw q at v in
-    left-done (sumText _) place m₂ r after (left-then (digitsOf body) _ next m₁ place m₂ (left-then (headText count high low kind) _ at out next m₁ all w) put) last
+    let last : Wrote (closingText (count + (high + (low + (kind + sumOf body))))) place m₂ r after = rw q at v in
+    left-done (closingText _) place m₂ r after (left-then (digitsOf body) _ next m₁ place m₂ (left-then (headText count high low kind) _ at out next m₁ all w) put) last
 
 -- two buffers into which texts were put, with one outcome, are of one length
 pub same-room : (l m x y : List ℕ) (a b : ℕ) → sets l a x ≡ sets m b y → length l ≡ length m

@@ -14,12 +14,12 @@ use Rattle.words.specs.LawsChoice.{pick-true, pick-false}
 use Rattle.words.specs.declared.ByteAddress.{ByteAddress}
 use Rattle.device.specs.declared.Device.{Device}
 use Rattle.device.specs.Record.{mostWords, deviceOk, recordNumber}
-use Rattle.device.specs.Memory.{imageOk}
+use Rattle.device.specs.Memory.{readingTail, imageOk}
 use Rattle.device.specs.LawsRecord.{rules-of-judged, ok-of-judged, bad-of-judged}
 use Rattle.device.specs.LawsMemory.{image-long}
 use Rattle.hexwrite.specs.declared.WrittenHex.{WrittenHex}
 use Rattle.hexwrite.specs.Writer.{sumOf, digitsOf, recordText, upperOf, endBytes, runText, upperAfter, textFrom, hexText, writtenHex, writtenOut, WroteHex}
-use Rattle.hexwrite.specs.LawsWrite.{Wrote, Left, Addressed, upperText, headText, sumText, refusedWith, left-all, left-then, left-part, left-none, left-room, wrote-room, record-put}
+use Rattle.hexwrite.specs.LawsWrite.{Wrote, Left, Addressed, upperText, headText, closingText, refusedWith, left-all, left-then, left-part, left-none, left-room, wrote-room, record-put}
 use Rattle.hexwrite.specs.LawsWriteRun.{dataAt, run-none, run-told, after-some, upper-read}
 use Rattle.hexwrite.specs.LawsWriteStop.{RunTo, text-end, text-skip}
 use Rattle.hexwrite.specs.LawsWriteText.{length-run, length-text}
@@ -28,29 +28,30 @@ use Rattle.hexwrite.specs.LawsWriteText.{length-run, length-text}
 
 -- where the loop stands before entry i, where no run is held back
 pub record Turn (words : ℕ) (image before : List ℕ) (upper at i : ℕ) (out : List ℕ) : Type 0 where
-  pub left : Left (textFrom words image (words + 9) 0 0 0) 0 before (textFrom words image (words + 9 - i) upper i i) at out
-  pub high : i ≤ words + 9
+  pub left : Left (textFrom words image (words + readingTail) 0 0 0) 0 before (textFrom words image (words + readingTail - i) upper i i) at out
+  pub high : i ≤ words + readingTail
 
 pub turn-first : (words : ℕ) (image before : List ℕ) → Turn words image before 0 0 0 before
 turn-first words image before =
-    record { left = rw all (left-all (textFrom words image (words + 9) 0 0 0) 0 before); high = omega arith }
+    record { left = rw all (left-all (textFrom words image (words + readingTail) 0 0 0) 0 before); high = omega arith }
   where
-    all : words + 9 - 0 ≡ words + 9
+    all : words + readingTail - 0 ≡ words + readingTail
     all = omega arith
 
 left-same : {whole : List ℕ} {first : ℕ} {before : List ℕ} {x y : List ℕ} {at : ℕ} {out : List ℕ} → x ≡ y → Left whole first before x at out → Left whole first before y at out
 left-same e l = rw e at l
 
 module _ (words : ℕ) (image before : List ℕ) (upper at i : ℕ) (out : List ℕ) (turn : Turn words image before upper at i out) where
-  pub turn-skip : i < words + 9 → getD image i 0 ≡ notGiven → Turn words image before upper at (i + 1) out
-  turn-skip h g = record { left = left-same (text-skip words image (words + 9) upper i h g) (turn .left); high = omega arith }
+  pub turn-skip : i < words + readingTail → getD image i 0 ≡ notGiven → Turn words image before upper at (i + 1) out
+  turn-skip h g = record { left = left-same (text-skip words image (words + readingTail) upper i h g) (turn .left); high = omega arith }
 
-  module _ (long : length image ≡ words + 9) (stop : ℕ) (run : RunTo image i stop) where
-    next : Left (textFrom words image (words + 9) 0 0 0) 0 before (runText words image upper i stop ++ textFrom words image (words + 9 - stop) (upperAfter words upper i stop) stop stop) at out
+  module _ (long : length image ≡ words + readingTail) (stop : ℕ) (run : RunTo image i stop) where
+    next : Left (textFrom words image (words + readingTail) 0 0 0) 0 before
+        (runText words image upper i stop ++ textFrom words image (words + readingTail - stop) (upperAfter words upper i stop) stop stop) at out
     next = left-same (rw long at (run .text words upper)) (turn .left)
 
     module _ (a : ByteAddress) (d : Addressed words i a) where
-      pub turn-room : length (textFrom words image (words + 9) 0 0 0) ≤ length before → at + length (upperText upper (a .0 / 65536)) + (12 + 4 * (stop - i)) ≤ length out
+      pub turn-room : length (textFrom words image (words + readingTail) 0 0 0) ≤ length before → at + length (upperText upper (a .0 / 65536)) + (12 + 4 * (stop - i)) ≤ length out
       turn-room h =
           let half : a .0 / 65536 ≡ upperOf words i = upper-read words i a (a .0 / 65536) d refl in
           let n : length (runText words image upper i stop) ≡ length (upperText upper (upperOf words i)) + (12 + 4 * (stop - i)) = length-run words image upper i stop (run .more) in
@@ -58,7 +59,8 @@ module _ (words : ℕ) (image before : List ℕ) (upper at i : ℕ) (out : List 
           let same : length out ≡ length before = left-room (turn .left) in
           rw half (omega arith)
 
-      pub turn-on : (r : ℕ) (after : List ℕ) (u : ℕ) → Wrote (upperText upper (a .0 / 65536) ++ recordText (dataAt (a .0) image i stop)) at out r after → u ≡ a .0 / 65536 → Turn words image before u r stop after
+      pub turn-on : (r : ℕ) (after : List ℕ) (u : ℕ) → Wrote (upperText upper (a .0 / 65536) ++ recordText (dataAt (a .0) image i stop)) at out r after → u ≡ a .0 / 65536
+          → Turn words image before u r stop after
       turn-on r after u w q =
           let half : upperAfter words upper i stop ≡ u = after-some words image upper i stop (run .more) ∙ sym (upper-read words i a u d q) in
           let put : Wrote (runText words image upper i stop) at out r after = rw (run-told words image upper i stop a d (run .more)) w in
@@ -67,35 +69,36 @@ module _ (words : ℕ) (image before : List ℕ) (upper at i : ℕ) (out : List 
             high = let far : stop ≤ length image = run .inside in omega arith;
           }
 
-  pub turn-done : words + 9 ≤ i → Wrote (textFrom words image (words + 9) 0 0 0) 0 before at out
-  turn-done h = left-none at out (left-same (text-end words image (words + 9) upper i i h ∙ run-none words image upper i i (omega arith)) (turn .left))
+  pub turn-done : words + readingTail ≤ i → Wrote (textFrom words image (words + readingTail) 0 0 0) 0 before at out
+  turn-done h = left-none at out (left-same (text-end words image (words + readingTail) upper i i h ∙ run-none words image upper i i (omega arith)) (turn .left))
 
 -- ---- the end record
 
-pub end-put : (at : ℕ) (out m after : List ℕ) (sum r : ℕ) → Wrote (headText 0 0 0 1) at out sum m → Wrote (sumText 1) sum m r after → after ≡ sets out at (recordText endBytes)
+pub end-put : (at : ℕ) (out m after : List ℕ) (sum r : ℕ) → Wrote (headText 0 0 0 1) at out sum m → Wrote (closingText 1) sum m r after → after ≡ sets out at (recordText endBytes)
 unfolding endBytes digitsOf sumOf
 end-put at out m after sum r w v = record-put 0 0 0 1 [] at sum 1 out m m r after w refl sum (omega arith) refl v .bytes
 
 module _ (words : ℕ) (image out : List ℕ) (fits : length (hexText words image) ≤ length out) where
-  pub entries-room : length (textFrom words image (words + 9) 0 0 0) ≤ length out
-  entries-room = let n : length (hexText words image) ≡ 12 + length (textFrom words image (words + 9) 0 0 0) = length-text words image in omega arith
+  pub entries-room : length (textFrom words image (words + readingTail) 0 0 0) ≤ length out
+  entries-room = let n : length (hexText words image) ≡ 12 + length (textFrom words image (words + readingTail) 0 0 0) = length-text words image in omega arith
 
-  module _ (at : ℕ) (mid : List ℕ) (w : Wrote (textFrom words image (words + 9) 0 0 0) 0 out at mid) where
+  module _ (at : ℕ) (mid : List ℕ) (w : Wrote (textFrom words image (words + readingTail) 0 0 0) 0 out at mid) where
     pub end-room : at + 12 ≤ length mid
     end-room =
-        let n : length (hexText words image) ≡ 12 + length (textFrom words image (words + 9) 0 0 0) = length-text words image in
+        let n : length (hexText words image) ≡ 12 + length (textFrom words image (words + readingTail) 0 0 0) = length-text words image in
         let same : length mid ≡ length out = wrote-room w in
-        let e : at ≡ 0 + length (textFrom words image (words + 9) 0 0 0) = w .end in
+        let e : at ≡ 0 + length (textFrom words image (words + readingTail) 0 0 0) = w .end in
         omega arith
 
     pub text-put : (after : List ℕ) → after ≡ sets mid at (recordText endBytes) → after ≡ sets out 0 (hexText words image)
     unfolding hexText
-    text-put after e = e ∙ left-then (textFrom words image (words + 9) 0 0 0) (recordText endBytes) 0 out at mid (left-all (hexText words image) 0 out) w .bytes
+    text-put after e = e ∙ left-then (textFrom words image (words + readingTail) 0 0 0) (recordText endBytes) 0 out at mid (left-all (hexText words image) 0 out) w .bytes
 
 -- ---- the call's answers
 
 -- what the first two tests tell
-pub judged-sound : (d : Device) (image : List ℕ) (number : ℕ) (b : Bool) → number ≡ recordNumber d → number ≡ 0 → b ≡ imageOk (d .words) image → b ≡ true → (d .words ≤ mostWords) × (length image ≡ d .words + 9)
+pub judged-sound : (d : Device) (image : List ℕ) (number : ℕ) (b : Bool) → number ≡ recordNumber d → number ≡ 0 → b ≡ imageOk (d .words) image → b ≡ true
+    → (d .words ≤ mostWords) × (length image ≡ d .words + readingTail)
 judged-sound d image number b judged sound e t = (rules-of-judged d (sym judged ∙ sound) .most, image-long (d .words) image (sym e ∙ t))
 
 -- what the third test tells

@@ -1,67 +1,29 @@
 -- What the writer's sentence says, told of the text as a whole: given words in ascending order, each run of neighbours
 -- within an aligned block one record, a type 04 record only where the upper half changes.
-use Prim.Native.Nat.{ℕ, zero, suc, _+_, _-_, _*_, _/_, _%_, _≤_, _<_}
+use Prim.Native.Nat.{ℕ, zero, suc, _+_, _-_, _/_, _%_, _≤_, _<_}
 use native.Mathlib.Omega.{arith}
 use native.Mathlib.Decide.{decLt}
-use mathlib.Core.Path.{_≡_, refl, sym, ap, _∙_}
+use mathlib.Core.Path.{_≡_, refl}
 use mathlib.Core.Logic.{_⊎_, inl, inr}
 use mathlib.Core.List.{List, [], _++_, append-nil}
 use lib.ListN.{getD}
 use borrow.Author.Count.{below-more}
 use Rattle.words.specs.Word.{notGiven}
-use Rattle.device.specs.Record.{mostWords}
-use Rattle.hexwrite.specs.Writer.{recordText, hexAddress, upperOf, dataBytes, runText, upperAfter, runEnd, nextStart, textFrom}
+use Rattle.device.specs.Memory.{readingTail}
+use Rattle.hexwrite.specs.Writer.{recordText, upperOf, dataBytes, runText, upperAfter, runEnd, nextStart, textFrom}
 use Rattle.hexwrite.specs.LawsWrite.{upperText}
-use Rattle.hexwrite.specs.LawsWriteRun.{Seen, seen, gap, full, goes, run-some, run-none, after-some, after-none, hex-program, hex-config}
-
--- ---- blocks of sixteen bytes are blocks of eight entries, since P is a multiple of 8
-
-module _ (words i j : ℕ) (eighths : words % 8 ≡ 0) (m : words ≤ mostWords) where
-  pub same-block : i / 8 ≡ j / 8 → hexAddress words i / 16 ≡ hexAddress words j / 16
-  same-block e = by (decLt i words) (decLt j words)
-    where
-      by : Dec (i < words) → Dec (j < words) → hexAddress words i / 16 ≡ hexAddress words j / 16
-      by (yes p) (yes q) = rw (hex-program words i p, hex-program words j q) (omega arith)
-      by (yes p) (no q) = absurd (omega arith)
-      by (no p) (yes q) = absurd (omega arith)
-      by (no p) (no q) = rw (hex-config words i (omega arith), hex-config words j (omega arith)) (omega arith)
-
-  pub block-same : hexAddress words i / 16 ≡ hexAddress words j / 16 → i / 8 ≡ j / 8
-  block-same e = by (decLt i words) (decLt j words)
-    where
-      by : Dec (i < words) → Dec (j < words) → i / 8 ≡ j / 8
-      by (yes p) (yes q) = let z : 2 * i / 16 ≡ 2 * j / 16 = rw (hex-program words i p, hex-program words j q) at e in omega arith
-      by (yes p) (no q) = let z : 2 * i / 16 ≡ (65536 + 2 * (j - words)) / 16 = rw (hex-program words i p, hex-config words j (omega arith)) at e in absurd (omega arith)
-      by (no p) (yes q) = let z : (65536 + 2 * (i - words)) / 16 ≡ 2 * j / 16 = rw (hex-config words i (omega arith), hex-program words j q) at e in absurd (omega arith)
-      by (no p) (no q) = let z : (65536 + 2 * (i - words)) / 16 ≡ (65536 + 2 * (j - words)) / 16 = rw (hex-config words i (omega arith), hex-config words j (omega arith)) at e in omega arith
-
--- a place in a block is the same by entries and by bytes
-pub block-place : (words i : ℕ) → words % 8 ≡ 0 → hexAddress words i % 16 ≡ 2 * (i % 8)
-block-place words i eighths = by (decLt i words)
-  where
-    by : Dec (i < words) → hexAddress words i % 16 ≡ 2 * (i % 8)
-    by (yes p) = rw (hex-program words i p) (omega arith)
-    by (no p) =
-        let far : ℕ = i - words in
-        let split : i ≡ 8 * (words / 8) + far = omega arith in
-        let place : i % 8 ≡ far % 8 = omega arith in
-        let bytes : (65536 + 2 * far) % 16 ≡ 2 * (far % 8) = omega arith in
-        rw (hex-config words i (omega arith)) (bytes ∙ ap (λ n. 2 * n) (sym place))
+use Rattle.hexwrite.specs.LawsWriteRun.{Seen, seen, gap, full, goes, run-some, run-none, after-some, after-none}
 
 -- ---- runs
 
 -- the entries from s up to, not including, e: all given, in one block, and more on neither side within it
 pub record Run (words : ℕ) (image : List ℕ) (s e : ℕ) : Type 0 where
   pub some : s < e
-  pub within : e ≤ words + 9
+  pub within : e ≤ words + readingTail
   pub given : (k : ℕ) → s ≤ k → k < e → getD image k 0 ≡ notGiven → ⊥
   pub block : (k : ℕ) → s ≤ k → k < e → k / 8 ≡ s / 8
   pub no-earlier : (s % 8 ≡ 0) ⊎ (getD image (s - 1) 0 ≡ notGiven)
-  pub no-later : (e % 8 ≡ 0) ⊎ ((e ≡ words + 9) ⊎ (getD image e 0 ≡ notGiven))
-
--- the bytes of a run stand in one aligned block of sixteen
-pub run-bytes : (words : ℕ) (image : List ℕ) (s e k : ℕ) → words % 8 ≡ 0 → words ≤ mostWords → Run words image s e → s ≤ k → k < e → hexAddress words k / 16 ≡ hexAddress words s / 16
-run-bytes words image s e k eighths m r p q = same-block words k s eighths m (r .block k p q)
+  pub no-later : (e % 8 ≡ 0) ⊎ ((e ≡ words + readingTail) ⊎ (getD image e 0 ≡ notGiven))
 
 -- no word is given from `from` up to `to`
 abbrev pub Silent : List ℕ → (from to : ℕ) → Type 0
@@ -69,7 +31,7 @@ Silent image from to = (k : ℕ) → from ≤ k → k < to → getD image k 0 �
 
 -- the text of all given words from entry `from` on, where the upper half is `upper`
 pub data Records (words : ℕ) (image : List ℕ) : (from upper : ℕ) → List ℕ → Type 0 where
-  no-more : {from upper : ℕ} → Silent image from (words + 9) → Records words image from upper []
+  no-more : {from upper : ℕ} → Silent image from (words + readingTail) → Records words image from upper []
   run : {from upper : ℕ} {rest : List ℕ} (s e : ℕ) → from ≤ s → Silent image from s → Run words image s e → Records words image e (upperOf words s) rest
       → Records words image from upper ((upperText upper (upperOf words s) ++ recordText (dataBytes words image s e)) ++ rest)
 
@@ -86,7 +48,8 @@ module _ (words : ℕ) (image : List ℕ) where
     pub given : (k : ℕ) → s ≤ k → k < i → getD image k 0 ≡ notGiven → ⊥
     pub no-earlier : (s % 8 ≡ 0) ⊎ (getD image (s - 1) 0 ≡ notGiven)
 
-  ended : (from s i e : ℕ) → Held from s i → s < e → e ≤ words + 9 → e ≤ s + 8 → (e - 1) / 8 ≡ s / 8 → ((k : ℕ) → s ≤ k → k < e → getD image k 0 ≡ notGiven → ⊥) → (e % 8 ≡ 0) ⊎ ((e ≡ words + 9) ⊎ (getD image e 0 ≡ notGiven)) → Run words image s e
+  ended : (from s i e : ℕ) → Held from s i → s < e → e ≤ words + readingTail → e ≤ s + 8 → (e - 1) / 8 ≡ s / 8 → ((k : ℕ) → s ≤ k → k < e → getD image k 0 ≡ notGiven → ⊥)
+      → (e % 8 ≡ 0) ⊎ ((e ≡ words + readingTail) ⊎ (getD image e 0 ≡ notGiven)) → Run words image s e
   ended from s i e h some within few one given later =
       record { some = some; within = within; given = given; block = λ k p q. omega arith; no-earlier = h .no-earlier; no-later = later }
 
@@ -135,7 +98,8 @@ module _ (words : ℕ) (image : List ℕ) where
   one-block from s i h p = let b : i ≤ s + i % 8 = h .block in omega arith
 
   -- a run and what comes after it
-  put-run : {from upper : ℕ} {rest : List ℕ} (s i e : ℕ) → Held from s i → Run words image s e → Records words image e (upperAfter words upper s e) rest → Records words image from upper (runText words image upper s e ++ rest)
+  put-run : {from upper : ℕ} {rest : List ℕ} (s i e : ℕ) → Held from s i → Run words image s e → Records words image e (upperAfter words upper s e) rest
+      → Records words image from upper (runText words image upper s e ++ rest)
   put-run {from} {upper} {rest} s i e h r t =
       let u : upperAfter words upper s e ≡ upperOf words s = after-some words image upper s e (r .some) in
       rw (run-some words image upper s e (r .some)) (run s e (h .after) (h .silent) r (rw u at t))
@@ -149,7 +113,7 @@ module _ (words : ℕ) (image : List ℕ) where
   Made : (n upper from s i : ℕ) → Type 0
   Made n upper from s i = Records words image from upper (textFrom words image n upper s i)
 
-  at-end : (upper from s i : ℕ) → i ≡ words + 9 → Held from s i → Dec (s < i) → Records words image from upper (runText words image upper s i)
+  at-end : (upper from s i : ℕ) → i ≡ words + readingTail → Held from s i → Dec (s < i) → Records words image from upper (runText words image upper s i)
   at-end upper from s i all h (yes p) =
       let r : Run words image s i = ended from s i i h p (omega arith) (let b : i ≤ s + i % 8 = h .block in omega arith) (one-block from s i h p) (h .given) (inr (inl all)) in
       let z : Records words image from upper (runText words image upper s i ++ []) = put-run s i i h r (no-more (λ k a b. absurd (omega arith))) in
@@ -159,7 +123,7 @@ module _ (words : ℕ) (image : List ℕ) where
       rw (run-none words image upper s i (omega arith)) (no-more (λ k a b. h .silent k a (omega arith)))
 
   -- one entry, where the rest is made of records whatever run is held after it
-  one-entry : (n upper from s i : ℕ) → i < words + 9 → Held from s i → ((u f t : ℕ) → Held f t (i + 1) → Made n u f t (i + 1)) → Seen image s i → Dec (s < i)
+  one-entry : (n upper from s i : ℕ) → i < words + readingTail → Held from s i → ((u f t : ℕ) → Held f t (i + 1) → Made n u f t (i + 1)) → Seen image s i → Dec (s < i)
       → Records words image from upper (runText words image upper s (runEnd image s i) ++ textFrom words image n (upperAfter words upper s (runEnd image s i)) (nextStart image s i) (i + 1))
   unfolding Made
   one-entry n upper from s i far h next (gap g x y) (yes p) =
@@ -177,12 +141,12 @@ module _ (words : ℕ) (image : List ℕ) where
   one-entry n upper from s i far h next (goes g z x y) q =
       rw (x, y) (put-none s s (omega arith) (next (upperAfter words upper s s) from s (held-on from s i h g z)))
 
-  made : (n upper from s i : ℕ) → i + n ≡ words + 9 → Held from s i → Made n upper from s i
+  made : (n upper from s i : ℕ) → i + n ≡ words + readingTail → Held from s i → Made n upper from s i
   unfolding textFrom Made
   made zero upper from s i all h = at-end upper from s i (omega arith) h (decLt s i)
   made (suc n) upper from s i all h =
       one-entry n upper from s i (omega arith) h (λ u f t k. made n u f t (i + 1) (omega arith) k) (seen image s i) (decLt s i)
 
   -- the text is made of records in this way
-  pub text-made : Records words image 0 0 (textFrom words image (words + 9) 0 0 0)
-  text-made = unfold Made in made (words + 9) 0 0 0 0 (omega arith) (held-block 0 refl)
+  pub text-made : Records words image 0 0 (textFrom words image (words + readingTail) 0 0 0)
+  text-made = unfold Made in made (words + readingTail) 0 0 0 0 (omega arith) (held-block 0 refl)

@@ -17,8 +17,9 @@ use Rattle.words.specs.declared.WordAddress.{WordAddress}
 use Rattle.words.specs.declared.Place.{Place}
 use Rattle.words.specs.declared.Place.the-variants.{At, Nowhere}
 use Rattle.device.specs.Record.{mostWords}
+use Rattle.device.specs.Memory.{readingTail}
 use Rattle.hexwrite.specs.Writer.{sumOf, digitsOf, recordText, hexAddress, upperOf, wordBytes, dataBytes, upperBytes, runText, upperAfter, runEnd, nextStart}
-use Rattle.hexwrite.specs.LawsWrite.{Wrote, Addressed, upperText, headText, sumText, left-all, left-then, left-done, wrote-none, wrote-room, length-record, record-put}
+use Rattle.hexwrite.specs.LawsWrite.{Wrote, Addressed, upperText, headText, closingText, left-all, left-then, left-done, wrote-none, wrote-room, length-record, record-put}
 
 -- ---- addresses
 
@@ -32,7 +33,7 @@ module _ (words i : ℕ) where
   unfolding hexAddress
   hex-config h = rw (address-config configBase words i h) (omega arith)
 
-  pub hex-below : words ≤ mostWords → i ≤ words + 9 → hexAddress words i < 0x20000
+  pub hex-below : words ≤ mostWords → i ≤ words + readingTail → hexAddress words i < 0x20000
   hex-below m h = by (decLt i words)
     where
       by : Dec (i < words) → hexAddress words i < 0x20000
@@ -43,16 +44,16 @@ module _ (words i : ℕ) where
   unfolding upperOf
   upper-program m h = rw (hex-program h) (omega arith)
 
-  pub upper-config : words ≤ i → i ≤ words + 9 → upperOf words i ≡ 1
+  pub upper-config : words ≤ i → i ≤ words + readingTail → upperOf words i ≡ 1
   unfolding upperOf
   upper-config p h = rw (hex-config p) (omega arith)
 
-  pub upper-most : words ≤ mostWords → i ≤ words + 9 → upperOf words i ≤ 1
+  pub upper-most : words ≤ mostWords → i ≤ words + readingTail → upperOf words i ≤ 1
   unfolding upperOf
   upper-most m h = let b : hexAddress words i < 0x20000 = hex-below m h in omega arith
 
 -- the upper half never falls
-pub upper-rises : (words i j : ℕ) → words ≤ mostWords → i ≤ j → j ≤ words + 9 → upperOf words i ≤ upperOf words j
+pub upper-rises : (words i j : ℕ) → words ≤ mostWords → i ≤ j → j ≤ words + readingTail → upperOf words i ≤ upperOf words j
 upper-rises words i j m p h = by (decLt i words)
   where
     by : Dec (i < words) → upperOf words i ≤ upperOf words j
@@ -60,22 +61,22 @@ upper-rises words i j m p h = by (decLt i words)
     by (no q) = rw (upper-config words i (omega arith) (omega arith), upper-config words j (omega arith) h) (omega arith)
 
 -- the code's way: the entry's place, and its byte address
-module _ {words i : ℕ} (m : words ≤ mostWords) (h : i < words + 9) where
-  pub address-at : {p : Place} {a : WordAddress} {r : ByteAddress} → p ≡ At a → p ≡ placeOf 0x8000 words 9 i → r ≡ doubled a → Addressed words i r
+module _ {words i : ℕ} (m : words ≤ mostWords) (h : i < words + readingTail) where
+  pub address-at : {p : Place} {a : WordAddress} {r : ByteAddress} → p ≡ At a → p ≡ placeOf configBase words readingTail i → r ≡ doubled a → Addressed words i r
   unfolding doubled
   address-at {p} {a} {r} t e d = record { is = here; below = rw here (hex-below words i m (omega arith)) }
     where
       same : a ≡ record { 0 = addressOf configBase words i }
       same =
-          let q : placeOf 0x8000 words 9 i ≡ At (record { 0 = addressOf configBase words i }) = place-of 0x8000 words 9 i (omega arith) (omega arith) h in
+          let q : placeOf configBase words readingTail i ≡ At (record { 0 = addressOf configBase words i }) = place-of configBase words readingTail i (omega arith) (omega arith) h in
           cc
 
       here : r .0 ≡ hexAddress words i
       here = ap (λ x. x .0) d ∙ (ap (λ x. 2 * x .0) same ∙ (unfold hexAddress in refl))
 
-  pub address-nowhere : {p : Place} {r : ByteAddress} → p ≡ Nowhere → p ≡ placeOf 0x8000 words 9 i → Addressed words i r
+  pub address-nowhere : {p : Place} {r : ByteAddress} → p ≡ Nowhere → p ≡ placeOf configBase words readingTail i → Addressed words i r
   address-nowhere {p} {r} t e =
-      let q : placeOf 0x8000 words 9 i ≡ At (record { 0 = addressOf configBase words i }) = place-of 0x8000 words 9 i (omega arith) (omega arith) h in
+      let q : placeOf configBase words readingTail i ≡ At (record { 0 = addressOf configBase words i }) = place-of configBase words readingTail i (omega arith) (omega arith) h in
       let z : _≡_ {A = ℕ} 0 1 = cc in
       absurd (omega arith)
 
@@ -117,9 +118,20 @@ module _ (image : List ℕ) (start stop at : ℕ) (before : List ℕ) where
   putting-first h = record { low = omega arith; high = h; place = omega arith; few = omega arith; room = refl; bytes = refl; sums = omega arith }
 
   module _ (out : List ℕ) (sum to i : ℕ) (p : Putting image start stop at before out sum to i) where
-    pub putting-on : i < stop → getD image i 0 < 65536 → (m n : List ℕ) → m ≡ sets out to (byteText (getD image i 0 % 256)) → n ≡ sets m (to + 2) (byteText (getD image i 0 / 256)) → Putting image start stop at before n (sum + (getD image i 0 % 256 + getD image i 0 / 256)) (to + 4) (i + 1)
+    pub putting-on : i < stop → getD image i 0 < 65536 → (m n : List ℕ) → m ≡ sets out to (byteText (getD image i 0 % 256))
+        → n ≡ sets m (to + 2) (byteText (getD image i 0 / 256)) → Putting image start stop at before n (sum + (getD image i 0 % 256 + getD image i 0 / 256)) (to + 4) (i + 1)
     putting-on h fits m n e q =
-        record { low = omega arith; high = omega arith; place = omega arith; few = omega arith; room = ap length (q ∙ ap (λ l. sets l (to + 2) (byteText (getD image i 0 / 256))) e) ∙ (length-sets _ (to + 2) (byteText (getD image i 0 / 256)) ∙ (length-sets out to (byteText (getD image i 0 % 256)) ∙ p .room)); bytes = stored; sums = added }
+        record {
+          low = omega arith;
+          high = omega arith;
+          place = omega arith;
+          few = omega arith;
+          room = ap length
+              (q ∙ ap (λ l. sets l (to + 2) (byteText (getD image i 0 / 256))) e) ∙
+              (length-sets _ (to + 2) (byteText (getD image i 0 / 256)) ∙ (length-sets out to (byteText (getD image i 0 % 256)) ∙ p .room));
+          bytes = stored;
+          sums = added;
+        }
       where
         more : stop - i ≡ suc (stop - (i + 1))
         more = omega arith
@@ -174,7 +186,8 @@ unfolding upperOf
 upper-read words s a r d q = q ∙ ap (λ n. n / 65536) (d .is)
 
 -- a run's text with its address as it was told
-pub run-told : (words : ℕ) (image : List ℕ) (upper s e : ℕ) (a : ByteAddress) → Addressed words s a → s < e → runText words image upper s e ≡ upperText upper (a .0 / 65536) ++ recordText (dataAt (a .0) image s e)
+pub run-told : (words : ℕ) (image : List ℕ) (upper s e : ℕ) (a : ByteAddress) → Addressed words s a → s < e
+    → runText words image upper s e ≡ upperText upper (a .0 / 65536) ++ recordText (dataAt (a .0) image s e)
 unfolding upperOf dataBytes dataAt
 run-told words image upper s e a d h = run-some words image upper s e h ∙ rw (d .is)
 
@@ -237,8 +250,9 @@ seen image s i = by (ℕ-discrete (getD image i 0) notGiven) (ℕ-discrete ((i +
 pub upper-kept : (upper next at : ℕ) (out : List ℕ) → next ≡ upper → Wrote (upperText upper next) at out at out
 upper-kept upper next at out e = rw (upper-same upper next e) (wrote-none at out)
 
-pub upper-put : (upper next at : ℕ) → (next ≡ upper → ⊥) → (out : List ℕ) (body : ℕ) (m₁ m₂ m₃ : List ℕ) (r : ℕ) (after : List ℕ) → Wrote (headText 2 0 0 4) at out body m₁ → m₂ ≡ sets m₁ body (byteText (next / 256)) → m₃ ≡ sets m₂ (body + 2) (byteText (next % 256))
-    → Wrote (sumText (6 + next / 256 + next % 256)) (body + 4) m₃ r after → Wrote (upperText upper next) at out r after
+pub upper-put : (upper next at : ℕ) → (next ≡ upper → ⊥) → (out : List ℕ) (body : ℕ) (m₁ m₂ m₃ : List ℕ) (r : ℕ) (after : List ℕ)
+    → Wrote (headText 2 0 0 4) at out body m₁ → m₂ ≡ sets m₁ body (byteText (next / 256)) → m₃ ≡ sets m₂ (body + 2) (byteText (next % 256))
+    → Wrote (closingText (6 + next / 256 + next % 256)) (body + 4) m₃ r after → Wrote (upperText upper next) at out r after
 unfolding upperBytes
 upper-put upper next at n out body m₁ m₂ m₃ r after w e₂ e₃ v =
     rw (upper-new upper next n)
@@ -250,13 +264,15 @@ upper-put upper next at n out body m₁ m₂ m₃ r after w e₂ e₃ v =
     summed : 6 + next / 256 + next % 256 ≡ 2 + (0 + (0 + (4 + sumOf (next / 256 ∷ next % 256 ∷ []))))
     summed = unfold sumOf in omega arith
 
-pub data-put : (address : ℕ) (image : List ℕ) (s e at : ℕ) (out : List ℕ) (body : ℕ) (m₁ : List ℕ) (sum : ℕ) (m₂ : List ℕ) (r : ℕ) (after : List ℕ) → Wrote (headText (2 * (e - s)) (address % 65536 / 256) (address % 256) 0) at out body m₁ → WordsPut image s e body m₁ sum m₂
-    → Wrote (sumText (2 * (e - s) + address % 65536 / 256 + address % 256 + sum)) (body + 4 * (e - s)) m₂ r after → Wrote (recordText (dataAt address image s e)) at out r after
+pub data-put : (address : ℕ) (image : List ℕ) (s e at : ℕ) (out : List ℕ) (body : ℕ) (m₁ : List ℕ) (sum : ℕ) (m₂ : List ℕ) (r : ℕ) (after : List ℕ)
+    → Wrote (headText (2 * (e - s)) (address % 65536 / 256) (address % 256) 0) at out body m₁ → WordsPut image s e body m₁ sum m₂
+    → Wrote (closingText (2 * (e - s) + address % 65536 / 256 + address % 256 + sum)) (body + 4 * (e - s)) m₂ r after → Wrote (recordText (dataAt address image s e)) at out r after
 unfolding dataAt
 data-put address image s e at out body m₁ sum m₂ r after w p v =
     let n : length (wordBytes (e - s) s image) ≡ 2 * (e - s) = length-words (e - s) s image in
     let q : sum ≡ sumOf (wordBytes (e - s) s image) = p .sum in
-    record-put (2 * (e - s)) (address % 65536 / 256) (address % 256) 0 (wordBytes (e - s) s image) at body (2 * (e - s) + address % 65536 / 256 + address % 256 + sum) out m₁ m₂ r after w (p .bytes) (body + 4 * (e - s)) (omega arith) (omega arith) v
+    record-put (2 * (e - s)) (address % 65536 / 256) (address % 256) 0 (wordBytes (e - s) s image) at body
+    (2 * (e - s) + address % 65536 / 256 + address % 256 + sum) out m₁ m₂ r after w (p .bytes) (body + 4 * (e - s)) (omega arith) (omega arith) v
 
 -- an upper half and what comes after it
 module _ (upper half full at : ℕ) (out : List ℕ) (e : half ≡ full) where

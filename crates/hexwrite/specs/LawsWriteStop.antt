@@ -83,7 +83,8 @@ module _ (image : List ℕ) (start stop i : ℕ) (b : BlockStop start (length im
 
   held : i < stop → (words upper : ℕ) → textFrom words image (length image - start) upper start start ≡ textFrom words image (length image - i) upper start i
   held h words upper =
-      let z : textFrom words image (length image - (i - 1)) upper start (i - 1) ≡ textFrom words image (length image - (i - 1 + 1)) upper start (i - 1 + 1) = text-goes words image (length image) upper start (i - 1) (omega arith) (go .given) (λ q. omega arith) in
+      let z : textFrom words image (length image - (i - 1)) upper start (i - 1) ≡ textFrom words image (length image - (i - 1 + 1)) upper start
+      (i - 1 + 1) = text-goes words image (length image) upper start (i - 1) (omega arith) (go .given) (λ q. omega arith) in
       go .text words upper ∙ (rw last-entry at z)
 
   pub going-on : i < stop → (getD image i 0 ≡ notGiven → ⊥) → Going image start stop (i + 1)
@@ -105,12 +106,16 @@ module _ (image : List ℕ) (start stop i : ℕ) (b : BlockStop start (length im
 
   full-text : i % 8 ≡ 0 → (words upper : ℕ) → textFrom words image (length image - start) upper start start ≡ runText words image upper start i ++ textFrom words image (length image - i) (upperAfter words upper start i) i i
   full-text z words upper =
-      let y : textFrom words image (length image - (i - 1)) upper start (i - 1) ≡ runText words image upper start (i - 1 + 1) ++ textFrom words image (length image - (i - 1 + 1)) (upperAfter words upper start (i - 1 + 1)) (i - 1 + 1) (i - 1 + 1) = text-full words image (length image) upper start (i - 1) (omega arith) (go .given) (rw last-entry z) in
+      let y : textFrom words image (length image - (i - 1)) upper start (i - 1) ≡ runText words image upper start (i - 1 + 1) ++ textFrom words image
+      (length image - (i - 1 + 1)) (upperAfter words upper start (i - 1 + 1)) (i - 1 + 1) (i - 1 + 1) = text-full words image (length image) upper start (i - 1)
+      (omega arith) (go .given) (rw last-entry z) in
       go .text words upper ∙ (rw last-entry at y)
 
-  end-text : i ≡ length image → (i % 8 ≡ 0 → ⊥) → (words upper : ℕ) → textFrom words image (length image - start) upper start start ≡ runText words image upper start i ++ textFrom words image (length image - i) (upperAfter words upper start i) i i
+  end-text : i ≡ length image → (i % 8 ≡ 0 → ⊥) → (words upper : ℕ)
+      → textFrom words image (length image - start) upper start start ≡ runText words image upper start i ++ textFrom words image (length image - i) (upperAfter words upper start i) i i
   end-text e n words upper =
-      let y : textFrom words image (length image - (i - 1)) upper start (i - 1) ≡ textFrom words image (length image - (i - 1 + 1)) upper start (i - 1 + 1) = text-goes words image (length image) upper start (i - 1) (omega arith) (go .given) (rw last-entry n) in
+      let y : textFrom words image (length image - (i - 1)) upper start (i - 1) ≡ textFrom words image (length image - (i - 1 + 1)) upper start
+      (i - 1 + 1) = text-goes words image (length image) upper start (i - 1) (omega arith) (go .given) (rw last-entry n) in
       let u : ℕ = upperAfter words upper start i in
       let nothing : textFrom words image (length image - i) u i i ≡ [] = text-end words image (length image) u i i (omega arith) ∙ run-none words image u i i (omega arith) in
       go .text words upper

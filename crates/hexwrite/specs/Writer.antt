@@ -5,7 +5,7 @@ use mathlib.Core.List.{List, [], _∷_, _++_}
 use lib.Dec.{ltb, leb, eqb}
 use lib.ListN.{length, getD}
 use lib.Seq.{sets}
-use Rattle.words.specs.Choice.{pick}
+use Rattle.words.specs.Choice.{pick, unless}
 use Rattle.words.specs.Word.{notGiven}
 use Rattle.numerals.specs.Text.{lf}
 use Rattle.numerals.specs.Hex.{byteText}
@@ -89,12 +89,10 @@ hexText words image = textFrom words image (words + readingTail) 0 0 0 ++ record
 
 unfoldable pub writtenHex : Device → (image out : List ℕ) → WrittenHex
 writtenHex d image out =
-    pick (deviceOk d)
-    (pick (imageOk (d .words) image)
-    (pick (leb (length (hexText (d .words) image)) (length out)) (record { number = 0; length = length (hexText (d .words) image) })
-    (record { number = 26; length = 0 }))
-    (record { number = 20; length = 0 }))
-    (record { number = 13; length = 0 })
+    unless (deviceOk d) (record { number = 13; length = 0 })
+    (unless (imageOk (d .words) image) (record { number = 20; length = 0 })
+    (unless (leb (length (hexText (d .words) image)) (length out)) (record { number = 26; length = 0 })
+    (record { number = 0; length = length (hexText (d .words) image) })))
 
 -- bytes past the text stay, and a refusal writes nothing
 unfoldable pub writtenOut : Device → (image out : List ℕ) → List ℕ

@@ -16,6 +16,7 @@ ghost use lib.Seq.{sets};
 ghost use Rattle.words.specs.Lists.{build};
 ghost use Rattle.numerals.specs.Hex.{digitText};
 ghost use Rattle.device.specs.Record.{mostWords};
+ghost use Rattle.device.specs.Memory.{readingTail};
 ghost use Rattle.hexwrite.specs.Writer.{recordText, endBytes, textFrom, hexText, WroteHex};
 ghost use Rattle.hexwrite.specs.LawsWrite.{Wrote, refusedWith};
 
@@ -49,7 +50,7 @@ fn refusal(number: u8) -> WrittenHex
 
 // Puts the whole text, which fits.
 fn put_text(out: &mut [u8], words: u16, image: &[u16])
-    requires { ⌜ (words ≤ mostWords) × (length (now image) ≡ words + 9) × (length (hexText words (now image)) ≤ length (now out)) ⌝ }
+    requires { ⌜ (words ≤ mostWords) × (length (now image) ≡ words + readingTail) × (length (hexText words (now image)) ≤ length (now out)) ⌝ }
     ensures { λ _. ⌜ now (out .exit) ≡ sets (now (out .entry)) 0 (hexText words (now (image .entry))) ⌝ }
 {
     let capitals = CAPITALS;
@@ -59,8 +60,8 @@ fn put_text(out: &mut [u8], words: u16, image: &[u16])
 
 // Puts the records of all runs, one run after the other.
 fn put_entries(out: &mut [u8], capitals: &[u8; 16], words: u16, image: &[u16]) -> usize
-    requires { ⌜ (now capitals ≡ build 16 digitText) × (words ≤ mostWords) × (length (now image) ≡ words + 9) × (length (textFrom words (now image) (words + 9) 0 0 0) ≤ length (now out)) ⌝ }
-    ensures { λ r. ⌜ Wrote (textFrom words (now (image .entry)) (words + 9) 0 0 0) 0 (now (out .entry)) r (now (out .exit)) ⌝ }
+    requires { ⌜ (now capitals ≡ build 16 digitText) × (words ≤ mostWords) × (length (now image) ≡ words + readingTail) × (length (textFrom words (now image) (words + readingTail) 0 0 0) ≤ length (now out)) ⌝ }
+    ensures { λ r. ⌜ Wrote (textFrom words (now (image .entry)) (words + readingTail) 0 0 0) 0 (now (out .entry)) r (now (out .exit)) ⌝ }
 {
     let mut upper: u16 = 0;
     let mut at: usize = 0;

@@ -1,4 +1,5 @@
 // The byte address of an entry, and its upper half.
+use device::READING_TAIL;
 use words::ByteAddress;
 use words::CONFIG_BASE;
 use words::Place;
@@ -6,14 +7,15 @@ use words::WordAddress;
 ghost use mathlib.Core.Path.{_≡_};
 ghost use Prim.Native.Nat.{_+_, _/_, _≤_, _<_};
 ghost use Rattle.device.specs.Record.{mostWords};
+ghost use Rattle.device.specs.Memory.{readingTail};
 ghost use Rattle.hexwrite.specs.LawsWrite.{Addressed};
 
 // The byte address at which an entry's word begins.
 pub(crate) fn hex_address(words: u16, entry: usize) -> ByteAddress
-    requires { ⌜ (words ≤ mostWords) × (entry < words + 9) ⌝ }
+    requires { ⌜ (words ≤ mostWords) × (entry < words + readingTail) ⌝ }
     ensures { λ r. ⌜ Addressed words entry r ⌝ }
 {
-    match words::address::address_of(WordAddress(CONFIG_BASE), words, 9, entry) {
+    match words::address::address_of(WordAddress(CONFIG_BASE), words, READING_TAIL as u8, entry) {
         Place::At(a) => words::address::double(a),
         Place::Nowhere => ByteAddress(0),
     }

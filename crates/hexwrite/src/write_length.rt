@@ -7,6 +7,7 @@ ghost use mathlib.Core.Path.{_≡_};
 ghost use Prim.Native.Nat.{_+_, _*_, _≤_};
 ghost use lib.ListN.{length};
 ghost use Rattle.device.specs.Record.{mostWords};
+ghost use Rattle.device.specs.Memory.{readingTail};
 ghost use Rattle.hexwrite.specs.Writer.{hexText};
 ghost use Rattle.hexwrite.specs.LawsWrite.{upperText};
 
@@ -18,7 +19,7 @@ const UPPER: usize = 16;
 
 // The length of the text of the given words and the end record.
 pub(crate) fn text_length(words: u16, image: &[u16]) -> usize
-    requires { ⌜ (words ≤ mostWords) × (length (now image) ≡ words + 9) ⌝ }
+    requires { ⌜ (words ≤ mostWords) × (length (now image) ≡ words + readingTail) ⌝ }
     ensures { λ r. ⌜ r ≡ length (hexText words (now (image .entry))) ⌝ }
 {
     let mut total: usize = EMPTY;

@@ -5,7 +5,7 @@ ghost use lib.ListN.{length};
 ghost use lib.Seq.{sets};
 ghost use Rattle.words.specs.Lists.{build};
 ghost use Rattle.numerals.specs.Hex.{digitText, byteText};
-ghost use Rattle.hexwrite.specs.LawsWrite.{Wrote, headText, sumText};
+ghost use Rattle.hexwrite.specs.LawsWrite.{Wrote, headText, closingText};
 
 const COLON: u8 = 0x3a;
 
@@ -44,7 +44,7 @@ pub(crate) fn put_head(
 // Puts the byte that makes a record sum to 0 mod 256, and LF; answers the place past them.
 pub(crate) fn put_sum(out: &mut [u8], at: usize, capitals: &[u8; 16], sum: usize) -> usize
     requires { ⌜ (now capitals ≡ build 16 digitText) × (at + 3 ≤ length (now out)) ⌝ }
-    ensures { λ r. ⌜ Wrote (sumText sum) at (now (out .entry)) r (now (out .exit)) ⌝ }
+    ensures { λ r. ⌜ Wrote (closingText sum) at (now (out .entry)) r (now (out .exit)) ⌝ }
 {
     put_pair(out, at, capitals, ((256 - sum % 256) % 256) as u8);
     out[at + 2] = LF;

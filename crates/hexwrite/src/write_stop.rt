@@ -5,6 +5,7 @@ ghost use Prim.Native.Nat.{_+_, _≤_, _<_};
 ghost use lib.ListN.{length, getD};
 ghost use Rattle.words.specs.Word.{notGiven};
 ghost use Rattle.device.specs.Record.{mostWords};
+ghost use Rattle.device.specs.Memory.{readingTail};
 ghost use Rattle.hexwrite.specs.LawsWriteStop.{BlockStop, RunTo};
 
 // An aligned block of sixteen bytes, in words.
@@ -12,7 +13,7 @@ const BLOCK: usize = 8;
 
 // The end of the run that begins at an entry: the next entry that is not given, or the end of the block or of the image.
 pub(crate) fn run_stop(image: &[u16], start: usize) -> usize
-    requires { ⌜ (start < length (now image)) × (length (now image) ≤ mostWords + 9) × (getD (now image) start 0 ≡ notGiven → ⊥) ⌝ }
+    requires { ⌜ (start < length (now image)) × (length (now image) ≤ mostWords + readingTail) × (getD (now image) start 0 ≡ notGiven → ⊥) ⌝ }
     ensures { λ r. ⌜ RunTo (now (image .entry)) start r ⌝ }
 {
     let stop = block_stop(start, image.len());
@@ -28,7 +29,7 @@ pub(crate) fn run_stop(image: &[u16], start: usize) -> usize
 
 // The end of the block that an entry stands in, or of all entries.
 fn block_stop(start: usize, count: usize) -> usize
-    requires { ⌜ (start < count) × (count ≤ mostWords + 9) ⌝ }
+    requires { ⌜ (start < count) × (count ≤ mostWords + readingTail) ⌝ }
     ensures { λ r. ⌜ BlockStop start count r ⌝ }
 {
     let stop = start / BLOCK * BLOCK + BLOCK;

@@ -3,7 +3,7 @@ use Prim.Native.Nat.{ℕ, zero, suc, _+_, _*_, _%_}
 use mathlib.Core.List.{List}
 use lib.ListN.{getD}
 use lib.Bits.{bitAnd}
-use Rattle.words.specs.Choice.{pick}
+use Rattle.words.specs.Choice.{pick, unless}
 use Rattle.device.specs.declared.Device.{Device}
 use Rattle.device.specs.Record.{deviceOk}
 use Rattle.device.specs.Memory.{readingOk, protected}
@@ -34,7 +34,6 @@ checksumOf d l =
 -- what the call answers
 unfoldable pub summed : Device → List ℕ → Sum
 summed d l =
-    pick (deviceOk d)
-    (pick (readingOk (d .words) l) (record { number = 0; sum = checksumOf d l })
-    (record { number = 21; sum = 0 }))
-    (record { number = 13; sum = 0 })
+    unless (deviceOk d) (record { number = 13; sum = 0 })
+    (unless (readingOk (d .words) l) (record { number = 21; sum = 0 })
+    (record { number = 0; sum = checksumOf d l }))

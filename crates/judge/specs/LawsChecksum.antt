@@ -12,7 +12,7 @@ use Rattle.words.specs.LawsChoice.{pick-true, pick-false}
 use Rattle.device.specs.declared.Device.{Device}
 use Rattle.device.specs.Record.{deviceOk}
 use Rattle.device.specs.Memory.{readingOk, protected}
-use Rattle.judge.specs.LawsReading.{protected-same}
+use Rattle.device.specs.LawsMemory.{protected-same}
 use Rattle.judge.specs.Checksum.{sumTo, configSum, nibbles, checksumOf, summed}
 
 -- ---- the program words
@@ -44,7 +44,8 @@ pub config-of : (d : Device) (l : List ℕ) (x y : ℕ) → x ≡ bitAnd (getD l
 unfolding configSum
 config-of d l x y p q = rw (p, q)
 
-pub nibbles-of : (words : ℕ) (l : List ℕ) (w x y z : ℕ) → w ≡ getD l words 0 % 16 → x ≡ getD l (words + 1) 0 % 16 → y ≡ getD l (words + 2) 0 % 16 → z ≡ getD l (words + 3) 0 % 16 → w * 4096 + x * 256 + y * 16 + z ≡ nibbles words l
+pub nibbles-of : (words : ℕ) (l : List ℕ) (w x y z : ℕ) → w ≡ getD l words 0 % 16 → x ≡ getD l (words + 1) 0 % 16 → y ≡ getD l (words + 2) 0 % 16
+    → z ≡ getD l (words + 3) 0 % 16 → w * 4096 + x * 256 + y * 16 + z ≡ nibbles words l
 unfolding nibbles
 nibbles-of words l w x y z p q r s = rw (p, q, r, s)
 
@@ -65,10 +66,6 @@ module _ (d : Device) (l : List ℕ) where
 
   pub sum-shown-of : (x y : ℕ) → x ≡ sumTo (d .words) l → y ≡ configSum d l → protected (d .words) l ≡ false → (x + y) % 65536 ≡ checksumOf d l
   sum-shown-of x y p q e = rw (p, q) (sym (sum-shown e))
-
-  pub sum-lt : checksumOf d l < 65536
-  unfolding checksumOf
-  sum-lt = omega arith
 
 -- ---- the answer
 

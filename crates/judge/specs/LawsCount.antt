@@ -111,15 +111,6 @@ first-none n f e = by (decLt (firstTo n f) n)
     by (yes h) = absurd (true-not-false (first n f .here h) (count-zero n f e (firstTo n f) h))
     by (no h) = let w : firstTo n f ≤ n = first n f .within in omega arith
 
--- no other place is the first
-pub first-only : (n : ℕ) (f : ℕ → Bool) (k : ℕ) → k < n → f k ≡ true → ((i : ℕ) → i < k → f i ≡ false) → firstTo n f ≡ k
-first-only n f k h t before = by (decLt (firstTo n f) k) (decLt k (firstTo n f))
-  where
-    by : Dec (firstTo n f < k) → Dec (k < firstTo n f) → firstTo n f ≡ k
-    by (yes p) q = absurd (true-not-false (first n f .here (omega arith)) (before (firstTo n f) p))
-    by (no p) (yes q) = absurd (true-not-false t (first n f .before k q))
-    by (no p) (no q) = omega arith
-
 -- ---- tests that agree
 
 module _ (f g : ℕ → Bool) where

@@ -4,14 +4,13 @@ use native.Mathlib.Nat.{pos-of-ne-zero}
 use native.Mathlib.Omega.{arith}
 use native.Mathlib.Decide.{decLt}
 use mathlib.Core.Path.{_≡_, refl, sym, ap, _∙_}
-use mathlib.Core.Bool.{Bool, true, false, _&&_, _||_, not}
+use mathlib.Core.Bool.{Bool, true, false, _&&_, not}
 use mathlib.Core.List.{List}
-use lib.Dec.{ltb, eqb}
+use lib.Dec.{eqb}
 use lib.ListN.{getD}
 use borrow.Author.Tests.{lt-ltb, le-ltb, eqb-true, eq-eqb, ne-eqb, not-false}
 use Rattle.words.specs.Choice.{pick}
 use Rattle.words.specs.LawsChoice.{second-fails}
-use Rattle.words.specs.LawsLists.{in-range, below-range, above-range}
 use Rattle.words.specs.Address.{configBase, addressOf, placeOf}
 use Rattle.words.specs.LawsAddress.{place-of, address-program, address-config}
 use Rattle.words.specs.declared.WordAddress.{WordAddress}
@@ -19,97 +18,103 @@ use Rattle.words.specs.declared.Place.{Place}
 use Rattle.words.specs.declared.Place.the-variants.{At, Nowhere}
 use Rattle.device.specs.declared.Device.{Device}
 use Rattle.device.specs.Record.{mostWords, deviceOk}
-use Rattle.device.specs.Memory.{readingOk, protected}
+use Rattle.device.specs.Memory.{readingTail, ids, cpWord, programmable, readingOk, protected}
+use Rattle.device.specs.LawsMemory.{programmable-low, programmable-never, programmable-config}
 use Rattle.judge.specs.declared.Verdict.{Verdict}
 use Rattle.judge.specs.Count.{countTo, firstTo}
 use Rattle.judge.specs.LawsCount.{Found}
-use Rattle.judge.specs.Verify.{judged, differs, bare, verdictOf, verified}
+use Rattle.judge.specs.Verify.{judged, entryDiffers, bare, verdictOf, verified}
 
 -- ---- which entries are judged
 
 module _ (words : ℕ) (hidden : Bool) (i : ℕ) where
   pub judged-program : i < words → judged words hidden i ≡ not hidden
   unfolding judged
-  judged-program h = rw (lt-ltb i words h, below-range words 4 i h, below-range (words + 7) 2 i (omega arith)) (plain (not hidden))
+  judged-program h = rw (programmable-low words i (omega arith), lt-ltb i words h) (by hidden)
     where
-      plain : (b : Bool) → ((b || false) || false) ≡ b
-      plain true = refl
-      plain false = refl
+      by : (b : Bool) → not (b && true) ≡ not b
+      by true = refl
+      by false = refl
 
-  pub judged-id : words ≤ i → i < words + 4 → judged words hidden i ≡ true
+  -- above the program words protection has no say
+  pub judged-above : words ≤ i → judged words hidden i ≡ programmable words i
   unfolding judged
-  judged-id p h = rw (le-ltb i words p, in-range words 4 i p h)
-
-  pub judged-between : words + 4 ≤ i → i < words + 7 → judged words hidden i ≡ false
-  unfolding judged
-  judged-between p h = rw (le-ltb i words (omega arith), above-range words 4 i p, below-range (words + 7) 2 i h)
-
-  pub judged-config : words + 7 ≤ i → i < words + 9 → judged words hidden i ≡ true
-  unfolding judged
-  judged-config p h = rw (le-ltb i words (omega arith), above-range words 4 i (omega arith), in-range (words + 7) 2 i p (omega arith))
-
-  pub judged-beyond : words + 9 ≤ i → judged words hidden i ≡ false
-  unfolding judged
-  judged-beyond p = rw (le-ltb i words (omega arith), above-range words 4 i (omega arith), above-range (words + 7) 2 i (omega arith))
-
-  -- the last test of the code
-  pub judged-last : words + 7 ≤ i → ltb i (words + 9) ≡ judged words hidden i
-  judged-last p = by (decLt i (words + 9))
+  judged-above p = rw (le-ltb i words p) (by hidden (programmable words i))
     where
-      by : Dec (i < words + 9) → ltb i (words + 9) ≡ judged words hidden i
-      by (yes h) = lt-ltb i (words + 9) h ∙ sym (judged-config p h)
-      by (no h) = le-ltb i (words + 9) (omega arith) ∙ sym (judged-beyond (omega arith))
+      by : (b c : Bool) → (c && not (b && false)) ≡ c
+      by true true = refl
+      by true false = refl
+      by false true = refl
+      by false false = refl
+
+  pub judged-id : words ≤ i → i < words + ids → judged words hidden i ≡ true
+  judged-id p h = judged-above p ∙ programmable-low words i h
+
+  pub judged-between : words + ids ≤ i → i < words + cpWord → judged words hidden i ≡ false
+  judged-between p h = judged-above (omega arith) ∙ programmable-never words i p h
+
+  pub judged-config : words + cpWord ≤ i → i < words + readingTail → judged words hidden i ≡ true
+  judged-config p h = judged-above (omega arith) ∙ programmable-config words i p h
 
 -- ---- which entries differ
 
 module _ (words : ℕ) (wanted reading : List ℕ) (i : ℕ) where
   -- an entry differs if it is judged and the words are not the same
-  pub differs-there : judged words (protected words reading) i ≡ true → differs words wanted reading i ≡ false → getD wanted i 0 ≡ getD reading i 0
-  unfolding differs
+  pub differs-there : judged words (protected words reading) i ≡ true → entryDiffers words wanted reading i ≡ false → getD wanted i 0 ≡ getD reading i 0
+  unfolding entryDiffers
   differs-there j e = eqb-true (getD wanted i 0) (getD reading i 0) (not-false (eqb (getD wanted i 0) (getD reading i 0)) (rw j at e))
 
-  pub differs-equal : getD wanted i 0 ≡ getD reading i 0 → differs words wanted reading i ≡ false
-  unfolding differs
+  pub differs-equal : getD wanted i 0 ≡ getD reading i 0 → entryDiffers words wanted reading i ≡ false
+  unfolding entryDiffers
   differs-equal e =
       second-fails (judged words (protected words reading) i) (not (eqb (getD wanted i 0) (getD reading i 0)))
       (rw (eq-eqb (getD wanted i 0) (getD reading i 0) e))
 
-  pub differs-not-judged : judged words (protected words reading) i ≡ false → differs words wanted reading i ≡ false
-  unfolding differs
+  pub differs-not-judged : judged words (protected words reading) i ≡ false → entryDiffers words wanted reading i ≡ false
+  unfolding entryDiffers
   differs-not-judged j = rw j
 
   -- the entry as the code looks at it
-  pub differs-of : (hidden other : Bool) → hidden ≡ protected words reading → other ≡ (judged words hidden i && not (eqb (getD wanted i 0) (getD reading i 0))) → other ≡ differs words wanted reading i
-  unfolding differs
+  pub differs-of : (hidden other : Bool) → hidden ≡ protected words reading → other ≡ (judged words hidden i && not (eqb (getD wanted i 0) (getD reading i 0)))
+      → other ≡ entryDiffers words wanted reading i
+  unfolding entryDiffers
   differs-of hidden other p q = rw (← p) q
 
 -- ---- the verdict
 
 module _ (words : ℕ) (wanted reading : List ℕ) where
-  pub verdict-0 : countTo (words + 9) (differs words wanted reading) ≡ 0 → protected words reading ≡ false → verdictOf words wanted reading ≡ bare 0
+  pub verdict-0 : countTo (words + readingTail) (entryDiffers words wanted reading) ≡ 0 → protected words reading ≡ false → verdictOf words wanted reading ≡ bare 0
   unfolding verdictOf pick
-  verdict-0 z f = rw (le-ltb 0 (countTo (words + 9) (differs words wanted reading)) (omega arith), f)
+  verdict-0 z f = rw (le-ltb 0 (countTo (words + readingTail) (entryDiffers words wanted reading)) (omega arith), f)
 
-  pub verdict-41 : countTo (words + 9) (differs words wanted reading) ≡ 0 → protected words reading ≡ true → verdictOf words wanted reading ≡ bare 41
+  pub verdict-41 : countTo (words + readingTail) (entryDiffers words wanted reading) ≡ 0 → protected words reading ≡ true → verdictOf words wanted reading ≡ bare 41
   unfolding verdictOf pick
-  verdict-41 z f = rw (le-ltb 0 (countTo (words + 9) (differs words wanted reading)) (omega arith), f)
+  verdict-41 z f = rw (le-ltb 0 (countTo (words + readingTail) (entryDiffers words wanted reading)) (omega arith), f)
 
-  pub verdict-40 : 0 < countTo (words + 9) (differs words wanted reading) → verdictOf words wanted reading ≡ record { number = 40; address = record { 0 = addressOf configBase words (firstTo (words + 9) (differs words wanted reading)) }; count = countTo (words + 9) (differs words wanted reading) }
+  pub verdict-40 : 0 < countTo (words + readingTail) (entryDiffers words wanted reading)
+      → verdictOf words wanted reading ≡ record {
+        number = 40;
+        address = record {
+          0 = addressOf configBase words (firstTo (words + readingTail) (entryDiffers words wanted reading));
+        };
+        count = countTo (words + readingTail) (entryDiffers words wanted reading);
+      }
   unfolding verdictOf pick
-  verdict-40 h = rw (lt-ltb 0 (countTo (words + 9) (differs words wanted reading)) h)
+  verdict-40 h = rw (lt-ltb 0 (countTo (words + readingTail) (entryDiffers words wanted reading)) h)
 
 -- the same from what the code has found
-module _ (words : ℕ) (wanted reading : List ℕ) (count place : ℕ) (r : Found (words + 9) (differs words wanted reading) count place) where
+module _ (words : ℕ) (wanted reading : List ℕ) (count place : ℕ) (r : Found (words + readingTail) (entryDiffers words wanted reading) count place) where
   pub found-0 : count ≡ 0 → protected words reading ≡ false → bare 0 ≡ verdictOf words wanted reading
   found-0 z f = sym (verdict-0 words wanted reading (sym (r .counted) ∙ z) f)
 
   pub found-41 : count ≡ 0 → protected words reading ≡ true → bare 41 ≡ verdictOf words wanted reading
   found-41 z f = sym (verdict-41 words wanted reading (sym (r .counted) ∙ z) f)
 
-  pub found-40 : (count ≡ 0 → ⊥) → (a : WordAddress) → a ≡ record { 0 = addressOf configBase words place } → _≡_ {A = Verdict} (record { number = 40; address = a; count = count }) (verdictOf words wanted reading)
+  pub found-40 : (count ≡ 0 → ⊥) → (a : WordAddress) → a ≡ record { 0 = addressOf configBase words place }
+      → _≡_ {A = Verdict} (record { number = 40; address = a; count = count }) (verdictOf words wanted reading)
   found-40 n a e =
       let some : 0 < count = pos-of-ne-zero n in
-      let there : place ≡ firstTo (words + 9) (differs words wanted reading) = r .placed some in
+      let there : place ≡ firstTo (words + readingTail) (entryDiffers words wanted reading) = r .placed some in
       rw (e, there, r .counted) (sym (verdict-40 words wanted reading (rw (r .counted) at some)))
 
 -- ---- the answer
@@ -134,13 +139,13 @@ module _ (d : Device) (wanted reading : List ℕ) where
 -- ---- addresses
 
 -- the address that a place gives; 0 where it gives none
-abbrev pub wordOf : Place → WordAddress
-wordOf (At a) = a
-wordOf Nowhere = record { 0 = 0 }
+abbrev pub placeAddress : Place → WordAddress
+placeAddress (At a) = a
+placeAddress Nowhere = record { 0 = 0 }
 
 -- every entry of a reading has its address
-pub word-of-entry : (words i : ℕ) → words ≤ mostWords → i < words + 9 → wordOf (placeOf configBase words 9 i) ≡ record { 0 = addressOf configBase words i }
-word-of-entry words i most h = ap wordOf (place-of configBase words 9 i (omega arith) (omega arith) h)
+pub word-of-entry : (words i : ℕ) → words ≤ mostWords → i < words + readingTail → placeAddress (placeOf configBase words readingTail i) ≡ record { 0 = addressOf configBase words i }
+word-of-entry words i most h = ap placeAddress (place-of configBase words readingTail i (omega arith) (omega arith) h)
 
 -- a later entry has a higher address, so that the first entry that differs has the first address
 pub address-ascends : (words i j : ℕ) → words ≤ configBase → i < j → addressOf configBase words i < addressOf configBase words j

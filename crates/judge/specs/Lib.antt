@@ -2,7 +2,6 @@
 pub mod Count
 pub mod Checksum
 pub mod Verify
-pub mod LawsReading
 pub mod LawsCount
 pub mod LawsChecksum
 pub mod LawsVerify

@@ -1,12 +1,12 @@
 // The checksum of a reading.
 use crate::Sum;
-use crate::reading;
 use device::Device;
 ghost use mathlib.Core.Path.{_≡_};
 ghost use Prim.Native.Nat.{_+_, _*_, _%_, _≤_, _<_};
 ghost use lib.ListN.{length};
 ghost use lib.Bits.{bitAnd};
 ghost use Rattle.device.specs.Record.{mostWords};
+ghost use Rattle.device.specs.Memory.{readingTail};
 ghost use Rattle.judge.specs.Checksum.{sumTo, configSum, nibbles, checksumOf, summed};
 
 // The checksum of a reading of the device; or 13 or 21.
@@ -16,7 +16,7 @@ pub fn checksum(d: Device, reading: &[u16]) -> Sum
     if device::judge(d) != 0 {
         return Sum { number: 13, sum: 0 };
     }
-    if reading::is_reading(d.words, reading) {} else {
+    if device::is_reading(d.words, reading) {} else {
         return Sum { number: 21, sum: 0 };
     }
     Sum {
@@ -27,11 +27,11 @@ pub fn checksum(d: Device, reading: &[u16]) -> Sum
 
 // The checksum by CP: what a protected board hides has no part in it.
 fn sum_of(d: Device, reading: &[u16]) -> u16
-    requires { ⌜ (d .words ≤ mostWords) × (length (now reading) ≡ d .words + 9) ⌝ }
+    requires { ⌜ (d .words ≤ mostWords) × (length (now reading) ≡ d .words + readingTail) ⌝ }
     ensures { λ r. ⌜ r ≡ checksumOf d (now (reading .entry)) ⌝ }
 {
     let config = add_config(d, reading);
-    if reading::is_protected(d.words, reading) {
+    if device::is_protected(d.words, reading) {
         return ((config + join_nibbles(d.words, reading)) % 65536) as u16;
     }
     ((add_words(d.words, reading) + config) % 65536) as u16

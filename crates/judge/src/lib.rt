@@ -1,6 +1,5 @@
 // Checksum and verify. No call here has a `requires`.
 mod checksums;
-mod reading;
 mod verdicts;
 
 pub use checksums::checksum;

@@ -1,7 +1,7 @@
 // A reading held against a wanted reading.
 use crate::Verdict;
-use crate::reading;
 use device::Device;
+use device::READING_TAIL;
 use words::CONFIG_BASE;
 use words::Place;
 use words::WordAddress;
@@ -12,8 +12,8 @@ ghost use lib.Dec.{eqb};
 ghost use lib.ListN.{length};
 ghost use Rattle.words.specs.Address.{configBase, addressOf};
 ghost use Rattle.device.specs.Record.{mostWords};
-ghost use Rattle.device.specs.Memory.{protected};
-ghost use Rattle.judge.specs.Verify.{judged, differs, bare, verdictOf, verified};
+ghost use Rattle.device.specs.Memory.{readingTail, protected};
+ghost use Rattle.judge.specs.Verify.{judged, entryDiffers, bare, verdictOf, verified};
 ghost use Rattle.judge.specs.LawsCount.{Found, Noted};
 
 // How many entries differ so far, and the first of them if there is one.
@@ -29,10 +29,10 @@ pub fn verify(d: Device, wanted: &[u16], reading: &[u16]) -> Verdict
     if device::judge(d) != 0 {
         return only(13);
     }
-    if reading::is_reading(d.words, wanted) {} else {
+    if device::is_reading(d.words, wanted) {} else {
         return only(21);
     }
-    if reading::is_reading(d.words, reading) {} else {
+    if device::is_reading(d.words, reading) {} else {
         return only(21);
     }
     verdict(d.words, wanted, reading)
@@ -40,10 +40,10 @@ pub fn verify(d: Device, wanted: &[u16], reading: &[u16]) -> Verdict
 
 // What two sound readings come to.
 fn verdict(words: u16, wanted: &[u16], reading: &[u16]) -> Verdict
-    requires { ⌜ (words ≤ mostWords) × (length (now wanted) ≡ words + 9) × (length (now reading) ≡ words + 9) ⌝ }
+    requires { ⌜ (words ≤ mostWords) × (length (now wanted) ≡ words + readingTail) × (length (now reading) ≡ words + readingTail) ⌝ }
     ensures { λ r. ⌜ r ≡ verdictOf words (now (wanted .entry)) (now (reading .entry)) ⌝ }
 {
-    let hidden = reading::is_protected(words, reading);
+    let hidden = device::is_protected(words, reading);
     let found = compare(words, hidden, wanted, reading);
     if found.count == 0 {
         if hidden {
@@ -60,8 +60,8 @@ fn verdict(words: u16, wanted: &[u16], reading: &[u16]) -> Verdict
 
 // Goes over the entries once.
 fn compare(words: u16, hidden: bool, wanted: &[u16], reading: &[u16]) -> Differences
-    requires { ⌜ (length (now wanted) ≡ words + 9) × (length (now reading) ≡ words + 9) × (hidden ≡ protected words (now reading)) ⌝ }
-    ensures { λ r. ⌜ Found (words + 9) (differs words (now (wanted .entry)) (now (reading .entry))) (r .count) (r .first) ⌝ }
+    requires { ⌜ (length (now wanted) ≡ words + readingTail) × (length (now reading) ≡ words + readingTail) × (hidden ≡ protected words (now reading)) ⌝ }
+    ensures { λ r. ⌜ Found (words + readingTail) (entryDiffers words (now (wanted .entry)) (now (reading .entry))) (r .count) (r .first) ⌝ }
 {
     let mut found = Differences { count: 0, first: 0 };
     let mut i: usize = 0;
@@ -100,7 +100,7 @@ fn differ(words: u16, hidden: bool, i: usize, wanted: u16, reading: u16) -> bool
     false
 }
 
-// Program words are judged unless they are hidden; of the others, user IDs and configuration words.
+// Program words are judged unless they are hidden, user IDs and configuration words always.
 fn is_judged(words: u16, hidden: bool, i: usize) -> bool
     ensures { λ r. ⌜ r ≡ judged words hidden i ⌝ }
 {
@@ -108,21 +108,15 @@ fn is_judged(words: u16, hidden: bool, i: usize) -> bool
     if i < program {
         return !hidden;
     }
-    if i < program + 4 {
-        return true;
-    }
-    if i < program + 7 {
-        return false;
-    }
-    i < program + 9
+    device::programmable(words, i)
 }
 
 // The address of an entry of a reading.
 fn address(words: u16, entry: usize) -> WordAddress
-    requires { ⌜ (words ≤ mostWords) × (entry < words + 9) ⌝ }
+    requires { ⌜ (words ≤ mostWords) × (entry < words + readingTail) ⌝ }
     ensures { λ r. ⌜ r ≡ (record { 0 = addressOf configBase words entry }) ⌝ }
 {
-    match words::address::address_of(WordAddress(CONFIG_BASE), words, 9, entry) {
+    match words::address::address_of(WordAddress(CONFIG_BASE), words, READING_TAIL as u8, entry) {
         Place::At(a) => a,
         Place::Nowhere => WordAddress(0),
     }

@@ -12,10 +12,15 @@ use Rattle.lent.proofs.step_on.Reads as step-on
 use Rattle.lent.proofs.step_method.Reads as step-method
 use Rattle.lent.proofs.text.first_number.Reads as first-number
 
-same-steps : {d : Device} {h : Registers} {c p : ℕ} {ws cs ws₁ ws₂ cs₁ cs₂ : List ℕ} (r s : Stepped) → Steps d h c p ws cs (r .number) (r .registers) ws₁ cs₁ → Steps d h c p ws cs (s .number) (s .registers) ws₂ cs₂
+same-steps : {d : Device} {h : Registers} {c p : ℕ} {ws cs ws₁ ws₂ cs₁ cs₂ : List ℕ} (r s : Stepped) → Steps d h c p ws cs (r .number) (r .registers) ws₁ cs₁
+    → Steps d h c p ws cs (s .number) (s .registers) ws₂ cs₂
     → (r ≡ s) × (ws₁ ≡ ws₂) × (cs₁ ≡ cs₂)
-same-steps r s p q =
-    (λ i. record { number = determined (p .answers) (q .answers) i; registers = determined (p .registers) (q .registers) i }, determined (p .words-read) (q .words-read), determined (p .cells-left) (q .cells-left))
+same-steps r s p q = (
+  λ i. record { number = determined (p .answers) (q .answers) i; registers = determined (p .registers) (q .registers) i },
+  determined (p .words-read)
+      (q .words-read),
+  determined (p .cells-left) (q .cells-left),
+)
 
 -- words are the fifth parameter, cells the sixth
 pub step-on-determined : (κs : _) (a : _) (r s : _) (x y : _) → step-on.Post κs a r x → step-on.Post κs a s y

@@ -63,8 +63,10 @@ lends f = record {
   params = 6;
   locals =
       local S′.mir valueLocal ∷ local D′.mir valueLocal ∷ local R′.mir valueLocal ∷ local (tyInt w8) valueLocal ∷ local (tyInt w16) valueLocal ∷
-      local (sliceTy (tyRef (named 0) mut (tyInt w16))) valueLocal ∷ local (sliceTy (tyRef (named 1) mut (tyInt w16))) valueLocal ∷ local R′.mir memorySlot ∷ local (tyInt w8) valueLocal ∷ local (tyRef erased mut (pointee (R.the-row .written))) valueLocal ∷
-      local (tyRef erased mut (tyInt w16)) valueLocal ∷ local (sliceTy (tyRef erased mut (tyInt w16))) valueLocal ∷ local (tyRef erased mut (tyInt w16)) valueLocal ∷ local (sliceTy (tyRef erased mut (tyInt w16))) valueLocal ∷ local R′.mir valueLocal ∷ [];
+      local (sliceTy (tyRef (named 0) mut (tyInt w16))) valueLocal ∷ local (sliceTy (tyRef (named 1) mut (tyInt w16))) valueLocal ∷ local R′.mir memorySlot ∷ local
+      (tyInt w8) valueLocal ∷ local (tyRef erased mut (pointee (R.the-row .written))) valueLocal ∷
+      local (tyRef erased mut (tyInt w16)) valueLocal ∷ local (sliceTy (tyRef erased mut (tyInt w16))) valueLocal ∷ local (tyRef erased mut (tyInt w16)) valueLocal ∷ local
+      (sliceTy (tyRef erased mut (tyInt w16))) valueLocal ∷ local R′.mir valueLocal ∷ [];
   body =
       seq (assign (place 7 []) (rvOpd (copy (place 2 []))))
       (seq (assign (place 9 []) (addrOf (place 7 [])))
@@ -80,7 +82,13 @@ lends f = record {
 
 -- the slices were given up to the call
 abbrev stayed : Stays (step-on.ended .signature .params) (step-on.ended .kept)
-stayed = (stay-none (λ _. D.the-row) yes, (stay-none (λ _. R.the-row) yes, (stay-none (λ _. u8) yes, (stay-none (λ _. u16) yes, (gave-slice (0 ∷ []) tt (plain (λ _. u16)), (gave-slice (1 ∷ []) tt (plain (λ _. u16)), tt))))))
+stayed = (
+  stay-none (λ _. D.the-row) yes,
+  (
+    stay-none (λ _. R.the-row) yes,
+    (stay-none (λ _. u8) yes, (stay-none (λ _. u16) yes, (gave-slice (0 ∷ []) tt (plain (λ _. u16)), (gave-slice (1 ∷ []) tt (plain (λ _. u16)), tt)))),
+  ),
+)
 
 -- the contract that the proof cites
 abbrev pub Call : {M : Type 1} (𝓤 : URA M) (H : Heap 𝓤) (A : Atoms 𝓤) (at-mem : Memory → SProp 𝓤) (run : Routine → Fun 𝓤) → Contract 𝓤
@@ -103,7 +111,8 @@ made n z = record { number = n; registers = z }
 made-is : (n : ℕ) (z : Registers) → n < 2 ^ 8 → Is R.the-row z (registers-val z ∷ []) → Is S.the-row (made n z) (stepped-val (made n z) ∷ [])
 made-is n z n-fits z-is = LL.owes S.the-type S′.the-laws (made n z) ((refl, n-fits), (z-is, tt))
 
-module _ {M : Type 1} (𝓤 : URA M) (H : Heap 𝓤) (A : Atoms 𝓤) (W : Given 𝓤 H A) (at-mem : Memory → SProp 𝓤) (run : Routine → Fun 𝓤) (κ₁ κ₂ : Lft) (q₁ q₂ : Share) (d : Device) (d-is : Is D.the-row d (device-val d ∷ [])) (h : Registers) (h-is : Is R.the-row h (registers-val h ∷ []))
+module _ {M : Type 1} (𝓤 : URA M) (H : Heap 𝓤) (A : Atoms 𝓤) (W : Given 𝓤 H A) (at-mem : Memory → SProp 𝓤) (run : Routine → Fun 𝓤) (κ₁ κ₂ : Lft) (q₁ q₂ : Share)
+    (d : Device) (d-is : Is D.the-row d (device-val d ∷ [])) (h : Registers) (h-is : Is R.the-row h (registers-val h ∷ []))
     (c p : ℕ) (c-fits : c < 2 ^ 8) (p-fits : p < 2 ^ 16) (b₁ o₁ : ℕ) (γ₁ : GName) (ws : List ℕ) (b₂ o₂ : ℕ) (γ₂ : GName) (cs : List ℕ) where
   abbrev x₁ : RefT (List ℕ)
   x₁ = record { ptr = (b₁, o₁); name = γ₁; now = ws }
@@ -161,15 +170,19 @@ module _ {M : Type 1} (𝓤 : URA M) (H : Heap 𝓤) (A : Atoms 𝓤) (W : Given
   lies-out : (b : ℕ) (z : Registers) → ent 𝓤 (sem 𝓤 H A (mem R.the-row .lies z b 0)) (⋆ 𝓤 H A (‵ (fat fullShare R′.mir b 0 (registers-val z)) ∷ ‵ (R.the-row .own z (registers-val z ∷ [])) ∷ []))
   unfolding partOf
   lies-out b z =
-      qed W (‵ (mem R.the-row .lies z b 0) ∷ []) ∵ fpick ! (λ vs. fsplit ! $ spelt ! R.the-row (Is R.the-row) (shows 𝓤 H A R.the-row) (LL.vals R.the-type R′.the-laws) (LL.tells R.the-type R′.the-laws) fullShare z vs b 0 $
+      qed W (‵ (mem R.the-row .lies z b 0) ∷ []) ∵ fpick !
+      (λ vs. fsplit ! $ spelt ! R.the-row (Is R.the-row) (shows 𝓤 H A R.the-row) (LL.vals R.the-type R′.the-laws) (LL.tells R.the-type R′.the-laws) fullShare z vs b 0 $
       use1 W (‵ (fat fullShare R′.mir b 0 (registers-val z))) (W .laws .raw-at fullShare R′.mir b 0 (registers-val z)) $ frame ! $ done !)
 
   -- the tokens, the reference and the slices are all that the call asks beside plain data
   goes-to : (b ν : ℕ) (δ : GName)
-      → ent 𝓤 (⋆ 𝓤 H A ((‵ (flft (ν ∷ []) fullShare) ⊛ ‵ (flft κ₁ q₁) ⊛ ‵ (flft κ₂ q₂) ⊛ ‵ ftrue) ∷ ‵ (MutRef (named 0) (ν ∷ []) R.the-row .own (x b δ) (vptr b 0 ∷ [])) ∷ (‵ (MutSlice (named 0) κ₁ u16 .own x₁ (s₁ ∷ [])) ⊛ ‵ (MutSlice (named 1) κ₂ u16 .own x₂ (s₂ ∷ []))) ∷ [])) (Call 𝓤 H A at-mem run .pre (to b ν δ))
+      → ent 𝓤 (⋆ 𝓤 H A ((‵ (flft (ν ∷ []) fullShare) ⊛ ‵ (flft κ₁ q₁) ⊛ ‵ (flft κ₂ q₂) ⊛ ‵ ftrue) ∷ ‵ (MutRef (named 0) (ν ∷ []) R.the-row .own (x b δ) (vptr b 0 ∷ [])) ∷
+      (‵ (MutSlice (named 0) κ₁ u16 .own x₁ (s₁ ∷ [])) ⊛ ‵ (MutSlice (named 1) κ₂ u16 .own x₂ (s₂ ∷ []))) ∷ [])) (Call 𝓤 H A at-mem run .pre (to b ν δ))
   goes-to b ν δ =
-      qed W ((‵ (flft (ν ∷ []) fullShare) ⊛ ‵ (flft κ₁ q₁) ⊛ ‵ (flft κ₂ q₂) ⊛ ‵ ftrue) ∷ ‵ (MutRef (named 0) (ν ∷ []) R.the-row .own (x b δ) (vptr b 0 ∷ [])) ∷ (‵ (MutSlice (named 0) κ₁ u16 .own x₁ (s₁ ∷ [])) ⊛ ‵ (MutSlice (named 1) κ₂ u16 .own x₂ (s₂ ∷ []))) ∷ []) ∵
-      move ! (2 ∷ []) $ split ! $ nothing ! $ move ! (2 ∷ 0 ∷ []) $ fjoin ! $ move ! (1 ∷ 0 ∷ []) $ fjoin ! $ owned ! u16 (Is u16) (uint-makes 𝓤 H A W w16) p _ (refl, p-fits) $ fjoin ! $ owned ! u8 (Is u8) (uint-makes 𝓤 H A W w8) c _ (refl, c-fits) $ fjoin ! $
+      qed W ((‵ (flft (ν ∷ []) fullShare) ⊛ ‵ (flft κ₁ q₁) ⊛ ‵ (flft κ₂ q₂) ⊛ ‵ ftrue) ∷ ‵ (MutRef (named 0) (ν ∷ []) R.the-row .own (x b δ) (vptr b 0 ∷ [])) ∷
+      (‵ (MutSlice (named 0) κ₁ u16 .own x₁ (s₁ ∷ [])) ⊛ ‵ (MutSlice (named 1) κ₂ u16 .own x₂ (s₂ ∷ []))) ∷ []) ∵
+      move ! (2 ∷ []) $ split ! $ nothing ! $ move ! (2 ∷ 0 ∷ []) $ fjoin ! $ move ! (1 ∷ 0 ∷ []) $ fjoin ! $ owned ! u16 (Is u16) (uint-makes 𝓤 H A W w16) p _
+      (refl, p-fits) $ fjoin ! $ owned ! u8 (Is u8) (uint-makes 𝓤 H A W w8) c _ (refl, c-fits) $ fjoin ! $
       owned ! D.the-row (Is D.the-row) (LL.makes D.the-type D′.the-plain 𝓤 H A) d _ d-is $ fjoin ! $ move ! (2 ∷ 0 ∷ []) $ fjoin ! $ move ! (1 ∷ 0 ∷ []) $ join ! $ frame ! $ done !
 
   -- what is had at the end is what the contract says of the answer and the two lists
@@ -177,18 +190,25 @@ module _ {M : Type 1} (𝓤 : URA M) (H : Heap 𝓤) (A : Atoms 𝓤) (W : Given
       → ent 𝓤 (⋆ 𝓤 H A ((‵ (flft κ₁ q₁) ⊛ ‵ (flft κ₂ q₂) ⊛ ‵ ftrue) ∷ ‵ (finally u16 γ₁ zs₁) ∷ ‵ (finally u16 γ₂ zs₂) ∷ [])) (Post (stepped-val (made n z)))
   exits n z zs₁ zs₂ n-fits z-is l₁ l₂ e =
       qed W ((‵ (flft κ₁ q₁) ⊛ ‵ (flft κ₂ q₂) ⊛ ‵ ftrue) ∷ ‵ (finally u16 γ₁ zs₁) ∷ ‵ (finally u16 γ₂ zs₂) ∷ []) ∵
-      suffices ! _ (ends-at 𝓤 H A step-on.ended stayed (step-on.clauses 𝓤 H A at-mem run) W (((κ₁, (κ₂, tt)), (q₁, (q₂, tt)), tt, a, vals), tt) (stepped-val (made n z)) (made n z) (tt, (tt, (tt, (tt, (zs₁, (zs₂, tt)))))) (tt, (tt, (tt, (tt, (l₁, (l₂, tt))))))) $ says ! e $
-      frame ! $ nothing ! $ move ! (2 ∷ 0 ∷ []) $ fjoin ! $ move ! (1 ∷ 0 ∷ []) $ fjoin ! $ owned ! u16 (Is u16) (uint-makes 𝓤 H A W w16) p _ (refl, p-fits) $ fjoin ! $ owned ! u8 (Is u8) (uint-makes 𝓤 H A W w8) c _ (refl, c-fits) $ fjoin ! $
+      suffices ! _ (ends-at 𝓤 H A step-on.ended stayed (step-on.clauses 𝓤 H A at-mem run) W (((κ₁, (κ₂, tt)), (q₁, (q₂, tt)), tt, a, vals), tt) (stepped-val (made n z))
+      (made n z) (tt, (tt, (tt, (tt, (zs₁, (zs₂, tt)))))) (tt, (tt, (tt, (tt, (l₁, (l₂, tt))))))) $ says ! e $
+      frame ! $ nothing ! $ move ! (2 ∷ 0 ∷ []) $ fjoin ! $ move ! (1 ∷ 0 ∷ []) $ fjoin ! $ owned ! u16 (Is u16) (uint-makes 𝓤 H A W w16) p _
+      (refl, p-fits) $ fjoin ! $ owned ! u8 (Is u8) (uint-makes 𝓤 H A W w8) c _ (refl, c-fits) $ fjoin ! $
       owned ! R.the-row (Is R.the-row) (LL.makes R.the-type R′.the-plain 𝓤 H A) h _ h-is $ fjoin ! $ owned ! D.the-row (Is D.the-row) (LL.makes D.the-type D′.the-plain 𝓤 H A) d _ d-is $ fjoin ! $
       owned ! S.the-row (Is S.the-row) (LL.makes S.the-type S′.the-plain 𝓤 H A) (made n z) _ (made-is n z n-fits z-is) $ move ! (1 ∷ 0 ∷ []) $ done !
 
   module _ (f : Name) (C : Calls 𝓤 H) (Λ : Loops 𝓤 H) (fm : FmC 𝓤 H (W .laws) C) (known : Triple 𝓤 (C f) (Call 𝓤 H A at-mem run)) where
-    walk : Room u16 (length ws) → Room u16 (length cs) → ent 𝓤 (onEntry 𝓤 H A step-on.signature (κ₁, (κ₂, tt)) (q₁, (q₂, tt)) a vals) (WpFn 𝓤 H C Λ (lends f) (device-val d ∷ registers-val h ∷ vint w8 c ∷ vint w16 p ∷ s₁ ∷ s₂ ∷ []) Post)
+    walk : Room u16 (length ws) → Room u16 (length cs)
+        → ent 𝓤 (onEntry 𝓤 H A step-on.signature (κ₁, (κ₂, tt)) (q₁, (q₂, tt)) a vals) (WpFn 𝓤 H C Λ (lends f) (device-val d ∷ registers-val h ∷ vint w8 c ∷ vint w16 p ∷ s₁ ∷ s₂ ∷ []) Post)
     walk room₁ room₂ =
         qed W ((‵ (flft κ₁ q₁) ⊛ ‵ (flft κ₂ q₂) ⊛ ‵ ftrue) ∷ ‵ (owns (D.the-row ∷ R.the-row ∷ u8 ∷ u16 ∷ MutSlice (named 0) κ₁ u16 ∷ MutSlice (named 1) κ₂ u16 ∷ []) a vals) ∷ []) ∵
         enter ! C Λ (lends f) (device-val d ∷ registers-val h ∷ vint w8 c ∷ vint w16 p ∷ s₁ ∷ s₂ ∷ []) _ $
-        alloc1 ! (λ l₀. alloc1 ! (λ l₁. alloc1 ! (λ l₂. alloc1 ! (λ l₃. alloc1 ! (λ l₄. alloc1 ! (λ l₅. alloc1 ! (λ l₆. alloc1 ! (λ l₇. alloc1 ! (λ l₈. alloc1 ! (λ l₉. alloc1 ! (λ l₁₀. alloc1 ! (λ l₁₁. alloc1 ! (λ l₁₂. alloc1 ! (λ l₁₃. alloc1 ! (λ l₁₄. alloc0 ! $ params1 ! $
-        pass1 ! (init ! 26 refl (LL.lawful D.the-type D′.the-laws 𝓤 H A W .typed d _ d-is .0)) $ pass1 ! (init ! 24 refl (LL.lawful R.the-type R′.the-laws 𝓤 H A W .typed h _ h-is .0)) $ pass1 ! (init ! 22 refl (tt, record { fits = c-fits })) $ pass1 ! (init ! 20 refl (tt, record { fits = p-fits })) $
+        alloc1 ! (λ l₀. alloc1 ! (λ l₁. alloc1 ! (λ l₂. alloc1 !
+        (λ l₃. alloc1 ! (λ l₄. alloc1 ! (λ l₅. alloc1 !
+        (λ l₆. alloc1 ! (λ l₇. alloc1 ! (λ l₈. alloc1 ! (λ l₉. alloc1 ! (λ l₁₀. alloc1 ! (λ l₁₁. alloc1 ! (λ l₁₂. alloc1 ! (λ l₁₃. alloc1 ! (λ l₁₄. alloc0 ! $ params1 ! $
+        pass1 ! (init ! 26 refl (LL.lawful D.the-type D′.the-laws 𝓤 H A W .typed d _ d-is .0)) $ pass1 !
+        (init ! 24 refl (LL.lawful R.the-type R′.the-laws 𝓤 H A W .typed h _ h-is .0)) $ pass1 ! (init ! 22 refl (tt, record { fits = c-fits })) $ pass1 !
+        (init ! 20 refl (tt, record { fits = p-fits })) $
         pass1 ! (init ! 18 refl (tt, (tt, (record { fits = room₁ .0 }, tt)))) $ pass1 ! (init ! 16 refl (tt, (tt, (record { fits = room₂ .0 }, tt)))) $ pass0 ! $
         -- [_14; …; _0; …; the tokens; what the parameters own]
         move ! (31 ∷ []) $ fsplit ! $ drop ! $ fsplit ! $ drop ! $ fsplit ! $ drop ! $ fsplit ! $ drop ! $ fsplit ! $ move ! (1 ∷ []) $ fsplit ! $ move ! (1 ∷ []) $ drop ! $
@@ -196,19 +216,27 @@ module _ {M : Type 1} (𝓤 : URA M) (H : Heap 𝓤) (A : Atoms 𝓤) (W : Given
         assigns ! (of-opd ! (load ! (from ! (stop !)) (look ! 26 refl))) (from ! (stop !)) (init ! 16 refl (LL.lawful R.the-type R′.the-laws 𝓤 H A W .typed h _ h-is .0)) $
         assigns ! (addr ! (from ! (stop !))) (from ! (stop !)) (init ! 12 refl (tt, tt)) $
         assigns ! (addr ! (from ! (fld ! refl (hop ! (look-in ! 20 (sub ! 0 refl (whole !))) (stop !))))) (from ! (stop !)) (init ! 10 refl (tt, tt)) $
-        assigns ! (agg ! (and-then ! (load ! (from ! (stop !)) (look ! 10 refl)) (and-then ! (load ! (from ! (fld ! refl (stop !))) (look-in ! 20 (sub ! 1 refl (whole !)))) (no-more !)))) (from ! (stop !)) (init ! 8 refl (tt, (tt, (record { fits = room₁ .0 }, tt)))) $
+        assigns ! (agg ! (and-then ! (load ! (from ! (stop !)) (look ! 10 refl))
+        (and-then ! (load ! (from ! (fld ! refl (stop !))) (look-in ! 20 (sub ! 1 refl (whole !)))) (no-more !)))) (from ! (stop !)) (init ! 8 refl (tt, (tt, (record { fits = room₁ .0 }, tt)))) $
         assigns ! (addr ! (from ! (fld ! refl (hop ! (look-in ! 18 (sub ! 0 refl (whole !))) (stop !))))) (from ! (stop !)) (init ! 6 refl (tt, tt)) $
-        assigns ! (agg ! (and-then ! (load ! (from ! (stop !)) (look ! 6 refl)) (and-then ! (load ! (from ! (fld ! refl (stop !))) (look-in ! 18 (sub ! 1 refl (whole !)))) (no-more !)))) (from ! (stop !)) (init ! 4 refl (tt, (tt, (record { fits = room₂ .0 }, tt)))) $
+        assigns ! (agg ! (and-then ! (load ! (from ! (stop !)) (look ! 6 refl))
+        (and-then ! (load ! (from ! (fld ! refl (stop !))) (look-in ! 18 (sub ! 1 refl (whole !)))) (no-more !)))) (from ! (stop !)) (init ! 4 refl (tt, (tt, (record { fits = room₂ .0 }, tt)))) $
         -- the local is lent for a lifetime ν of the call
         owned ! R.the-row (Is R.the-row) (LL.makes R.the-type R′.the-plain 𝓤 H A) h _ h-is $ move ! (17 ∷ 0 ∷ []) $ use2 W (‵ (mem R.the-row .lies h l₇ 0)) (lies-in l₇) $
         lft-new ! tt (λ ν. move ! (1 ∷ []) $
-        use1 W (later (some (λ (δ : GName). ‵ (MutRef (named 0) (ν ∷ []) R.the-row .own (x l₇ δ) (vptr l₇ 0 ∷ [])) ⊛ ‵ (flent (ν ∷ []) (Body (mem R.the-row) l₇ 0 δ))))) (lends-ref 𝓤 H A W R.the-row (named 0) (ν ∷ []) h l₇ 0) $ await ! tt $ pick ! (λ δ. split ! $
+        use1 W (later (some (λ (δ : GName). ‵ (MutRef (named 0) (ν ∷ []) R.the-row .own (x l₇ δ) (vptr l₇ 0 ∷ [])) ⊛ ‵ (flent (ν ∷ []) (Body (mem R.the-row) l₇ 0 δ)))))
+        (lends-ref 𝓤 H A W R.the-row (named 0) (ν ∷ []) h l₇ 0) $ await ! tt $ pick ! (λ δ. split ! $
         -- [the reference; the lender's part; ν's token; what cells own; what words own; _14; …; _8; …; the end of _7; _6; …; _0; …; the tokens]
         move ! (2 ∷ 34 ∷ []) $ join ! $ move ! (4 ∷ 3 ∷ []) $ join ! $ move ! (1 ∷ 2 ∷ 0 ∷ []) $ use3 W (raw (Call 𝓤 H A at-mem run .pre (to l₇ ν δ))) (goes-to l₇ ν δ) $
         -- [what the call asks; the lender's part; _14; …; _8; …; the end of _7; _6; …; _0; …]
         calls-at ! fm (Call 𝓤 H A at-mem run) known (to l₇ ν δ)
-        (and-then ! (load ! (from ! (stop !)) (look ! 12 refl)) (and-then ! (load ! (from ! (stop !)) (look ! 27 refl)) (and-then ! (load ! (from ! (stop !)) (look ! 23 refl)) (and-then ! (load ! (from ! (stop !)) (look ! 21 refl)) (and-then ! (load ! (from ! (stop !)) (look ! 8 refl)) (and-then ! (load ! (from ! (stop !)) (look ! 4 refl)) (no-more !))))))) (λ w.
-        use1 W (later (some (λ (n : ℕ). ((‵ (flft (ν ∷ []) fullShare) ⊛ ‵ (flft κ₁ q₁) ⊛ ‵ (flft κ₂ q₂) ⊛ ‵ ftrue) ⊛ ‵ (u8 .own n (w ∷ []))) ⊛ raw (ensured 𝓤 H A lent-to.ended (lent-to.clauses 𝓤 H A at-mem run) (ν ∷ [], (κ₁, (κ₂, tt))) (passed l₇ δ) tt n)))) (id⊢ 𝓤 _) $ await ! tt $ pick ! (λ n.
+        (and-then ! (load ! (from ! (stop !)) (look ! 12 refl))
+        (and-then ! (load ! (from ! (stop !)) (look ! 27 refl))
+        (and-then ! (load ! (from ! (stop !)) (look ! 23 refl))
+        (and-then ! (load ! (from ! (stop !)) (look ! 21 refl))
+        (and-then ! (load ! (from ! (stop !)) (look ! 8 refl)) (and-then ! (load ! (from ! (stop !)) (look ! 4 refl)) (no-more !))))))) (λ w.
+        use1 W (later (some (λ (n : ℕ). ((‵ (flft (ν ∷ []) fullShare) ⊛ ‵ (flft κ₁ q₁) ⊛ ‵ (flft κ₂ q₂) ⊛ ‵ ftrue) ⊛ ‵ (u8 .own n (w ∷ []))) ⊛ raw
+        (ensured 𝓤 H A lent-to.ended (lent-to.clauses 𝓤 H A at-mem run) (ν ∷ [], (κ₁, (κ₂, tt))) (passed l₇ δ) tt n)))) (id⊢ 𝓤 _) $ await ! tt $ pick ! (λ n.
         -- what the call ensures, at some last registers and lists
         split ! $ move ! (1 ∷ []) $ use1 W (some (λ (zs : Lasts). ‵ (lasts lent-to.ended (ν ∷ [], (κ₁, (κ₂, tt))) (passed l₇ δ) zs) ⊛ raw (fact 𝓤 (Said n zs)))) (id⊢ 𝓤 _) $ pick ! (λ zs.
         split ! $ move ! (1 ∷ []) $ heard ! (Said n zs) (λ e. fsplit ! $ move ! (1 ∷ []) $ fsplit ! $ drop ! $ fsplit ! $ drop ! $ fsplit ! $ drop ! $
@@ -218,20 +246,31 @@ module _ {M : Type 1} (𝓤 : URA M) (H : Heap 𝓤) (A : Atoms 𝓤) (W : Given
         land ! (from ! (stop !)) (init ! 18 refl (uint-lawful 𝓤 H A W w8 .typed n _ n-is .0)) $ rewrite ! 18 (λ (u : Val). ‵ (fat fullShare (tyInt w8) l₈ 0 u)) (ap only (n-is .0)) refl $
         -- the lifetime is ended, and the local comes back
         split ! $ lft-end ! tt $ move ! (0 ∷ 6 ∷ 5 ∷ []) $ use3 W (later (‵ (mem R.the-row .lies (zs .0) l₇ 0))) (ref-back 𝓤 H A W R.the-row (ν ∷ []) δ (zs .0) l₇ 0) $ await ! tt $
-        use1 W (‵ (fat fullShare R′.mir l₇ 0 (registers-val (zs .0))) ⊛ ‵ (R.the-row .own (zs .0) (registers-val (zs .0) ∷ []))) (lies-out l₇ (zs .0)) $ split ! $ move ! (1 ∷ []) $ facts ! R.the-row (Is R.the-row) (shows 𝓤 H A R.the-row) (zs .0) (registers-val (zs .0) ∷ []) (λ z-is.
+        use1 W (‵ (fat fullShare R′.mir l₇ 0 (registers-val (zs .0))) ⊛ ‵ (R.the-row .own (zs .0) (registers-val (zs .0) ∷ []))) (lies-out l₇ (zs .0)) $ split ! $ move !
+        (1 ∷ []) $ facts ! R.the-row (Is R.the-row) (shows 𝓤 H A R.the-row) (zs .0) (registers-val (zs .0) ∷ []) (λ z-is.
         -- [_7; the tokens; the last cells; true; the last words; _14; …; _8; …; the end of _7; _6; …; _0; …]
         assigns ! (of-opd ! (load ! (from ! (stop !)) (look ! 0 refl))) (from ! (stop !)) (init ! 5 refl (LL.lawful R.the-type R′.the-laws 𝓤 H A W .typed (zs .0) _ z-is .0)) $
-        assigns ! (agg ! (and-then ! (load ! (from ! (stop !)) (look ! 17 refl)) (and-then ! (load ! (from ! (stop !)) (look ! 5 refl)) (no-more !)))) (from ! (stop !)) (init ! 32 refl (LL.lawful S.the-type S′.the-laws 𝓤 H A W .typed (made n (zs .0)) _ (made-is n (zs .0) (n-is .1) z-is) .0)) $
+        assigns ! (agg ! (and-then ! (load ! (from ! (stop !)) (look ! 17 refl)) (and-then ! (load ! (from ! (stop !)) (look ! 5 refl)) (no-more !)))) (from ! (stop !))
+        (init ! 32 refl (LL.lawful S.the-type S′.the-laws 𝓤 H A W .typed (made n (zs .0)) _ (made-is n (zs .0) (n-is .1) z-is) .0)) $
         returns ! (look ! 32 refl) $ forget ! 0 refl $ forget ! 5 refl $ forget ! 7 refl $ forget ! 9 refl $ forget ! 11 refl $ forget ! 13 refl $ forget ! 15 refl $ forget ! 17 refl $ forget ! 20 refl $ forget ! 22 refl $ forget ! 24 refl $ forget ! 26 refl $ forget ! 28 refl $ forget ! 30 refl $ forget ! 32 refl $
-        move ! (32 ∷ 33 ∷ []) $ free1 ! $ move ! (30 ∷ 31 ∷ []) $ free1 ! $ move ! (28 ∷ 29 ∷ []) $ free1 ! $ move ! (26 ∷ 27 ∷ []) $ free1 ! $ move ! (24 ∷ 25 ∷ []) $ free1 ! $ move ! (22 ∷ 23 ∷ []) $ free1 ! $ move ! (20 ∷ 21 ∷ []) $ free1 ! $ move ! (0 ∷ 19 ∷ []) $ free1 ! $
-        move ! (16 ∷ 17 ∷ []) $ free1 ! $ move ! (14 ∷ 15 ∷ []) $ free1 ! $ move ! (12 ∷ 13 ∷ []) $ free1 ! $ move ! (10 ∷ 11 ∷ []) $ free1 ! $ move ! (8 ∷ 9 ∷ []) $ free1 ! $ move ! (6 ∷ 7 ∷ []) $ free1 ! $ move ! (4 ∷ 5 ∷ []) $ free1 ! $ free0 ! $
+        move ! (32 ∷ 33 ∷ []) $ free1 ! $ move ! (30 ∷ 31 ∷ []) $ free1 ! $ move ! (28 ∷ 29 ∷ []) $ free1 ! $ move ! (26 ∷ 27 ∷ []) $ free1 ! $ move !
+        (24 ∷ 25 ∷ []) $ free1 ! $ move ! (22 ∷ 23 ∷ []) $ free1 ! $ move ! (20 ∷ 21 ∷ []) $ free1 ! $ move ! (0 ∷ 19 ∷ []) $ free1 ! $
+        move ! (16 ∷ 17 ∷ []) $ free1 ! $ move ! (14 ∷ 15 ∷ []) $ free1 ! $ move ! (12 ∷ 13 ∷ []) $ free1 ! $ move ! (10 ∷ 11 ∷ []) $ free1 ! $ move !
+        (8 ∷ 9 ∷ []) $ free1 ! $ move ! (6 ∷ 7 ∷ []) $ free1 ! $ move ! (4 ∷ 5 ∷ []) $ free1 ! $ free0 ! $
         keep ! (0 ∷ 3 ∷ 1 ∷ []) $ by ! (exits n (zs .0) (zs .1 .1 .1 .1 .0) (zs .1 .1 .1 .1 .1 .0) (n-is .1) z-is m₁ m₂ e))))))))))))))))))))))))))
 
 module _ {M : Type 1} (𝓤 : URA M) (H : Heap 𝓤) (A : Atoms 𝓤) (W : Given 𝓤 H A) (at-mem : Memory → SProp 𝓤) (run : Routine → Fun 𝓤) where
-  lends-walks : (f : Name) (C : Calls 𝓤 H) (Λ : Loops 𝓤 H) → FmC 𝓤 H (W .laws) C → Triple 𝓤 (C f) (Call 𝓤 H A at-mem run) → Walks 𝓤 H A step-on.ended stayed (WpFn 𝓤 H C Λ (lends f)) (step-on.clauses 𝓤 H A at-mem run)
+  lends-walks : (f : Name) (C : Calls 𝓤 H) (Λ : Loops 𝓤 H) → FmC 𝓤 H (W .laws) C → Triple 𝓤 (C f) (Call 𝓤 H A at-mem run)
+      → Walks 𝓤 H A step-on.ended stayed (WpFn 𝓤 H C Λ (lends f)) (step-on.clauses 𝓤 H A at-mem run)
   lends-walks f C Λ fm known = walked 𝓤 H A step-on.ended stayed (step-on.clauses 𝓤 H A at-mem run) (WpFn 𝓤 H C Λ (lends f))
       (λ κs. (LL.vals D.the-type D′.the-laws, (LL.vals R.the-type R′.the-laws, (uint-vals w8, (uint-vals w16, (slice-vals, (slice-vals, tt)))))))
-      (λ κs. (LL.tells D.the-type D′.the-laws, (LL.tells R.the-type R′.the-laws, (uint-tells w8, (uint-tells w16, (mut-slice-tells (named 0) (κs .0) u16, (mut-slice-tells (named 1) (κs .1 .0) u16, tt)))))))
+      (λ κs. (
+        LL.tells D.the-type D′.the-laws,
+        (
+          LL.tells R.the-type R′.the-laws,
+          (uint-tells w8, (uint-tells w16, (mut-slice-tells (named 0) (κs .0) u16, (mut-slice-tells (named 1) (κs .1 .0) u16, tt)))),
+        ),
+      ))
       (λ κs qs bounds a g are. let x₁ = a .1 .1 .1 .1 .0 in let x₂ = a .1 .1 .1 .1 .1 .0 in via 𝓤 _ (fst∗ 𝓤 _ (emp 𝓤))
       (walk 𝓤 H A W at-mem run (κs .0) (κs .1 .0) (qs .0) (qs .1 .0) (a .0) (are .0) (a .1 .0) (are .1 .0) (a .1 .1 .0) (a .1 .1 .1 .0) (are .1 .1 .0 .1) (are .1 .1 .1 .0 .1)
       (x₁ .ptr .0) (x₁ .ptr .1) (x₁ .name) (x₁ .now) (x₂ .ptr .0) (x₂ .ptr .1) (x₂ .name) (x₂ .now) f C Λ fm known (are .1 .1 .1 .1 .0 .0 .1) (are .1 .1 .1 .1 .1 .0 .0 .1)))
@@ -251,7 +290,8 @@ module _ {M : Type 1} (𝓤 : URA M) (H : Heap 𝓤) (A : Atoms 𝓤) (W : Given
     ),
   )
 
-pub lends-meets : {M : Type 1} (𝓤 : URA M) (H : Heap 𝓤) (A : Atoms 𝓤) → Given 𝓤 H A → (at-mem : Memory → SProp 𝓤) (run : Routine → Fun 𝓤) (𝓣 : Tables 𝓤 H) (f : Name) → Triple 𝓤 (𝓣 .C f) (Call 𝓤 H A at-mem run)
+pub lends-meets : {M : Type 1} (𝓤 : URA M) (H : Heap 𝓤) (A : Atoms 𝓤) → Given 𝓤 H A → (at-mem : Memory → SProp 𝓤) (run : Routine → Fun 𝓤) (𝓣 : Tables 𝓤 H) (f : Name)
+    → Triple 𝓤 (𝓣 .C f) (Call 𝓤 H A at-mem run)
     → Meets 𝓤 H A step-on.signature (WpFn 𝓤 H (𝓣 .C) (𝓣 .Λ) (lends f)) (step-on.spec 𝓤 H A at-mem run)
 lends-meets 𝓤 H A W at-mem run 𝓣 f known =
     walk-meets 𝓤 H A step-on.ended stayed W (goes 𝓤 H A W at-mem run) (step-on.clauses 𝓤 H A at-mem run)

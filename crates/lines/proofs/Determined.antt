@@ -32,5 +32,6 @@ module _ {M : Type 1} (𝓤 : URA M) (H : Heap 𝓤) (A : Atoms 𝓤) (mem : Mem
   pub number-determined : (κs : _) (a x : _) (r s : _) → ent 𝓤 (sep 𝓤 (number.ensures-1 𝓤 H κs A mem run a x r) (number.ensures-1 𝓤 H κs A mem run a x s)) (fact 𝓤 (r ≡ s))
   number-determined κs a x r s = both _ _ determined
 
-  pub take-determined : (κs : _) (a x y : _) (r s : _) → ent 𝓤 (sep 𝓤 (take.ensures-1 𝓤 H κs A mem run a (record { entry = a; exit = x }) r) (take.ensures-1 𝓤 H κs A mem run a (record { entry = a; exit = y }) s)) (fact 𝓤 ((r ≡ s) × (now x ≡ now y)))
+  pub take-determined : (κs : _) (a x y : _) (r s : _)
+      → ent 𝓤 (sep 𝓤 (take.ensures-1 𝓤 H κs A mem run a (record { entry = a; exit = x }) r) (take.ensures-1 𝓤 H κs A mem run a (record { entry = a; exit = y }) s)) (fact 𝓤 ((r ≡ s) × (now x ≡ now y)))
   take-determined κs a x y r s = both _ _ (λ p q. (determined (p .answer) (q .answer), determined (p .reader) (q .reader)))

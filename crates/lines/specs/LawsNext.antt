@@ -1,12 +1,11 @@
 -- Laws of taking lines: one for each way through the core, of a reader, and what a line that was taken tells.
 use Prim.Native.Nat.{ℕ, _+_, _-_, _≤_, _<_}
 use native.Mathlib.Omega.{arith}
-use mathlib.Core.Path.{_≡_, refl, sym, ap, _∙_}
+use mathlib.Core.Path.{_≡_, sym, ap, _∙_}
 use mathlib.Core.List.{List}
 use lib.ListN.{length, take, drop}
 use denote.Ref.{now}
 use borrow.Author.Tests.{lt-ltb, le-ltb}
-use Rattle.words.specs.Choice.{pick}
 use Rattle.words.specs.LawsChoice.{pick-true, pick-false}
 use Rattle.lines.specs.Lines.{lineAt, endOf, mostLine, numberAfter, nextLine, lineOf, movedOn, Takes}
 use Rattle.lines.specs.LawsLine.{Ended, piece, end-most, end-least, line-length, line-short, line-taken}

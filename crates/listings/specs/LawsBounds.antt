@@ -7,9 +7,9 @@ use lib.ListN.{length}
 use Rattle.numerals.specs.Hex.{byteText}
 use Rattle.target.specs.declared.Order.{Order}
 use Rattle.target.specs.Stream.{bytesOf}
-use Rattle.target.specs.LawsBoard.{length-bytes}
+use Rattle.target.specs.LawsStream.{length-bytes}
 use Rattle.print.specs.LawsLines.{either-short}
-use Rattle.board.specs.Open.{recordOf, recordNumber, boardNumber}
+use Rattle.board.specs.Open.{recordOf, openNumber, boardNumber}
 use Rattle.board.specs.LawsOpen.{opened-sound}
 use Rattle.board.specs.LawsBoard.{board-sound}
 use Rattle.listings.specs.Streams.{streamText, planText, hexOf, readbackText, updateText, freshText}
@@ -45,7 +45,7 @@ plan-short number s few = either-short mostPrinted (omega arith) number 0 (strea
 pub readback-short : (table sheet : List ℕ) → length (readbackText table sheet) ≤ 147632
 unfolding readbackText
 readback-short table sheet =
-    either-short mostPrinted (omega arith) (recordNumber table sheet) 0 _ (λ z. steps-short _ (read-back-few (recordOf table sheet) (opened-sound table sheet z)))
+    either-short mostPrinted (omega arith) (openNumber table sheet) 0 _ (λ z. steps-short _ (read-back-few (recordOf table sheet) (opened-sound table sheet z)))
 
 pub update-short : (table sheet hex : List ℕ) → length (updateText table sheet hex) ≤ 147632
 unfolding updateText

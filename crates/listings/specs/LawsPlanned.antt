@@ -11,18 +11,18 @@ use borrow.Author.Tests.{eq-eqb, ne-eqb, le-leb}
 use Rattle.words.specs.Choice.{pick}
 use Rattle.words.specs.LawsChoice.{pick-true, pick-false}
 use Rattle.device.specs.declared.Device.{Device}
-use Rattle.device.specs.Record.{deviceOk}
+use Rattle.device.specs.Record.{mostWords, deviceOk}
 use Rattle.device.specs.LawsRecord.{rules}
 use Rattle.target.specs.declared.Order.{Order}
 use Rattle.target.specs.Stream.{bytesOf}
-use Rattle.target.specs.LawsBoard.{length-bytes}
+use Rattle.target.specs.LawsStream.{length-bytes}
 use Rattle.plan.specs.declared.Planned.{Planned}
 use Rattle.plan.specs.Steps.{readBackSteps}
 use Rattle.plan.specs.Answers.{readBackNumber, planned, plannedOut, Plans}
 use Rattle.plan.specs.LawsPlanBounds.{read-back-steps}
 use Rattle.plan.specs.LawsDemands.{plan-bytes}
 use Rattle.print.specs.Print.{refusedText}
-use Rattle.board.specs.Open.{recordOf, recordNumber}
+use Rattle.board.specs.Open.{recordOf, openNumber}
 use Rattle.listings.specs.Streams.{streamText, planText, readbackText}
 use Rattle.listings.specs.LawsStreams.{mostStream}
 
@@ -105,14 +105,14 @@ plan-ready number steps few r out p = ready number steps (replicate mostStream 0
 pub read-back-few : (d : Device) → deviceOk d ≡ true → 3 * length (readBackSteps d) ≤ mostStream
 read-back-few d sound =
     let e : length (readBackSteps d) ≡ 2 * d .words + 18 = read-back-steps d sound in
-    let m : d .words ≤ 8192 = rules d sound .most in
+    let m : d .words ≤ mostWords = rules d sound .most in
     omega arith
 
 module _ (table sheet : List ℕ) where
-  pub readback-refused : (number : ℕ) → number ≡ recordNumber table sheet → (number ≡ 0 → ⊥) → refusedText number 0 ≡ readbackText table sheet
+  pub readback-refused : (number : ℕ) → number ≡ openNumber table sheet → (number ≡ 0 → ⊥) → refusedText number 0 ≡ readbackText table sheet
   unfolding readbackText pick
   readback-refused number e n = rw (← e, ne-eqb number 0 n)
 
-  pub readback-found : recordNumber table sheet ≡ 0 → (d : Device) → d ≡ recordOf table sheet → deviceOk d ≡ true → planText (readBackNumber d) (bytesOf (readBackSteps d)) ≡ readbackText table sheet
+  pub readback-found : openNumber table sheet ≡ 0 → (d : Device) → d ≡ recordOf table sheet → deviceOk d ≡ true → planText (readBackNumber d) (bytesOf (readBackSteps d)) ≡ readbackText table sheet
   unfolding readbackText readBackNumber pick
-  readback-found z d e sound = rw (eq-eqb (recordNumber table sheet) 0 z, sound) (unfold planText pick in ap (λ x. streamText (bytesOf (readBackSteps x))) e)
+  readback-found z d e sound = rw (eq-eqb (openNumber table sheet) 0 z, sound) (unfold planText pick in ap (λ x. streamText (bytesOf (readBackSteps x))) e)

@@ -12,10 +12,11 @@ use borrow.Author.Tests.{eq-eqb, ne-eqb, le-leb, lt-leb}
 use Rattle.words.specs.Choice.{pick}
 use Rattle.words.specs.LawsChoice.{pick-true, pick-false}
 use Rattle.device.specs.declared.Device.{Device}
-use Rattle.device.specs.Record.{deviceOk}
+use Rattle.device.specs.Memory.{readingTail}
+use Rattle.device.specs.Record.{mostWords, deviceOk}
 use Rattle.device.specs.LawsRecord.{Rules, rules, row, whole-rows}
 use Rattle.device.specs.LawsMemory.{image-long}
-use Rattle.hexread.specs.Reader.{Outcome, blankImage, refusedAt, readOf, readAnswer, HexRead}
+use Rattle.hexread.specs.Reader.{Outcome, blankImage, refusedAt, textRead, readAnswer, HexRead}
 use Rattle.hexread.specs.declared.ReadHex.{ReadHex}
 use Rattle.hexread.specs.LawsImage.{read-image-ok}
 use Rattle.target.specs.declared.Order.{Order}
@@ -24,7 +25,7 @@ use Rattle.plan.specs.Steps.{updateSteps, freshSteps}
 use Rattle.plan.specs.Answers.{updateNumber, freshNumber}
 use Rattle.plan.specs.LawsPlanBounds.{update-bound, fresh-bound}
 use Rattle.print.specs.Print.{refusedText}
-use Rattle.board.specs.Open.{recordOf, boardNumber, readingOf}
+use Rattle.board.specs.Open.{recordOf, boardNumber, boardReading}
 use Rattle.listings.specs.Streams.{hexOf, planText, updateText, freshText}
 use Rattle.listings.specs.LawsStreams.{mostStream}
 use Rattle.board.specs.LawsBoard.{Board, board-told, board-text}
@@ -76,25 +77,25 @@ module _ (fresh : Bool) (d : Device) (reading : List ℕ) (given : Outcome) wher
   given-found z = sym (pick-true (eqb (given .number) 0) _ _ (eq-eqb (given .number) 0 z))
 
 -- what a reader leaves does not depend on what the image held before
-read-any : (d : Device) (hex image : List ℕ) → deviceOk d ≡ true → length image ≡ d .words + 9 → readOf d hex image ≡ readOf d hex (blankImage (d .words))
-unfolding readOf pick
+read-any : (d : Device) (hex image : List ℕ) → deviceOk d ≡ true → length image ≡ d .words + readingTail → textRead d hex image ≡ textRead d hex (blankImage (d .words))
+unfolding textRead pick
 read-any d hex image sound long =
-    let blank : length (blankImage (d .words)) ≡ d .words + 9 = unfold blankImage in length-replicate (d .words + 9) _ in
-    rw (sound, eq-eqb (length image) (d .words + 9) long, eq-eqb (length (blankImage (d .words))) (d .words + 9) blank)
+    let blank : length (blankImage (d .words)) ≡ d .words + readingTail = unfold blankImage in length-replicate (d .words + readingTail) _ in
+    rw (sound, eq-eqb (length image) (d .words + readingTail) long, eq-eqb (length (blankImage (d .words))) (d .words + readingTail) blank)
 
 -- ---- the board, and then the HEX file
 
 module _ (fresh : Bool) (table sheet hex : List ℕ) where
   -- the text for a board that is not refused
   whole : List ℕ
-  whole = givenText fresh (recordOf table sheet) (readingOf table sheet) (hexOf table sheet hex)
+  whole = givenText fresh (recordOf table sheet) (boardReading table sheet) (hexOf table sheet hex)
 
   program-board : programText fresh table sheet hex ≡ pick (eqb (boardNumber table sheet) 0) whole (refusedText (boardNumber table sheet) 0)
   unfolding whole
   program-board = by fresh
     where
       by : (f : Bool) → programText f table sheet hex
-          ≡ pick (eqb (boardNumber table sheet) 0) (givenText f (recordOf table sheet) (readingOf table sheet) (hexOf table sheet hex)) (refusedText (boardNumber table sheet) 0)
+          ≡ pick (eqb (boardNumber table sheet) 0) (givenText f (recordOf table sheet) (boardReading table sheet) (hexOf table sheet hex)) (refusedText (boardNumber table sheet) 0)
       by true = unfold programText freshText givenText planNumber planSteps in pick-true true _ _ refl ∙ (unfold pick in refl)
       by false = unfold programText updateText givenText planNumber planSteps in pick-false false _ _ refl ∙ (unfold pick in refl)
 
@@ -110,50 +111,52 @@ module _ (fresh : Bool) (table sheet hex : List ℕ) where
       unfolding whole
       program-long h =
           let long : hexOf table sheet hex ≡ refusedAt (recordOf table sheet .words) 1 0 = unfold hexOf in pick-false (leb (length hex) 65536) _ _ (lt-leb (length hex) 65536 h) in
-          let told : refusedText 1 0 ≡ givenText fresh (recordOf table sheet) (readingOf table sheet) (refusedAt (recordOf table sheet .words) 1 0) = unfold givenText refusedAt pick in refl in
-          told ∙ (ap (givenText fresh (recordOf table sheet) (readingOf table sheet)) (sym long) ∙ program-whole)
+          let told : refusedText 1 0 ≡ givenText fresh (recordOf table sheet) (boardReading table sheet) (refusedAt (recordOf table sheet .words) 1 0) = unfold givenText refusedAt pick in refl in
+          told ∙ (ap (givenText fresh (recordOf table sheet) (boardReading table sheet)) (sym long) ∙ program-whole)
 
-      module _ (d : Device) (reading : List ℕ) (b : Board table sheet d reading) (h : length hex ≤ 65536) (image : List ℕ) (long : length image ≡ d .words + 9)
+      module _ (d : Device) (reading : List ℕ) (b : Board table sheet d reading) (h : length hex ≤ 65536) (image : List ℕ) (long : length image ≡ d .words + readingTail)
           (r : ReadHex) (image′ : List ℕ) (p : HexRead d hex image r image′) where
-        given : readOf d hex image ≡ hexOf table sheet hex
+        given : textRead d hex image ≡ hexOf table sheet hex
         unfolding hexOf
         given =
             read-any d hex image (b .sound) long
-            ∙ (ap (λ x. readOf x hex (blankImage (x .words))) (b .record-is) ∙ sym (pick-true (leb (length hex) 65536) _ _ (le-leb (length hex) 65536 h)))
+            ∙ (ap (λ x. textRead x hex (blankImage (x .words))) (b .record-is) ∙ sym (pick-true (leb (length hex) 65536) _ _ (le-leb (length hex) 65536 h)))
 
-        number-is : r .number ≡ readOf d hex image .number
+        number-is : r .number ≡ textRead d hex image .number
         unfolding readAnswer
         number-is = ap (λ x. x .number) (p .answer)
 
-        line-is : r .line ≡ readOf d hex image .line
+        line-is : r .line ≡ textRead d hex image .line
         unfolding readAnswer
         line-is = ap (λ x. x .line) (p .answer)
 
-        read-whole : givenText fresh d (take (d .words + 9) reading) (readOf d hex image) ≡ programText fresh table sheet hex
+        read-whole : givenText fresh d (take (d .words + readingTail) reading) (textRead d hex image) ≡ programText fresh table sheet hex
         unfolding whole
         read-whole =
-            ap (givenText fresh d (take (d .words + 9) reading)) given
+            ap (givenText fresh d (take (d .words + readingTail) reading)) given
             ∙ (ap (λ l. givenText fresh d l (hexOf table sheet hex)) (b .front)
-            ∙ (ap (λ x. givenText fresh x (readingOf table sheet) (hexOf table sheet hex)) (b .record-is) ∙ program-whole))
+            ∙ (ap (λ x. givenText fresh x (boardReading table sheet) (hexOf table sheet hex)) (b .record-is) ∙ program-whole))
 
         pub program-hex : (r .number ≡ 0 → ⊥) → refusedText (r .number) (r .line) ≡ programText fresh table sheet hex
-        program-hex n = rw (number-is, line-is) (given-refused fresh d (take (d .words + 9) reading) (readOf d hex image) (λ z. n (number-is ∙ z)) ∙ read-whole)
+        program-hex n = rw (number-is, line-is) (given-refused fresh d (take (d .words + readingTail) reading) (textRead d hex image) (λ z. n (number-is ∙ z)) ∙ read-whole)
 
         module _ (y : r .number ≡ 0) (rest : List ℕ) where
-          count : length image′ ≡ d .words + 9
-          count = ap length (p .image-is) ∙ image-long (d .words) (readOf d hex image .image) (read-image-ok d hex image (sym number-is ∙ y))
+          count : length image′ ≡ d .words + readingTail
+          count = ap length (p .image-is) ∙ image-long (d .words) (textRead d hex image .image) (read-image-ok d hex image (sym number-is ∙ y))
 
-          pub program-within : d .words + 9 ≤ length (image′ ++ rest)
+          pub program-within : d .words + readingTail ≤ length (image′ ++ rest)
           program-within = rw (length-append image′ rest) (omega (arith, count))
 
-          pub program-front : length (take (d .words + 9) (image′ ++ rest)) ≡ d .words + 9
-          program-front = length-take-le (d .words + 9) (image′ ++ rest) program-within
+          pub program-front : length (take (d .words + readingTail) (image′ ++ rest)) ≡ d .words + readingTail
+          program-front = length-take-le (d .words + readingTail) (image′ ++ rest) program-within
 
-          pub program-found : planText (planNumber fresh d (take (d .words + 9) (image′ ++ rest)) (take (d .words + 9) reading)) (bytesOf (planSteps fresh d (take (d .words + 9) (image′ ++ rest)) (take (d .words + 9) reading)))
+          pub program-found : planText (planNumber fresh d (take (d .words + readingTail) (image′ ++ rest)) (take (d .words + readingTail) reading))
+              (bytesOf (planSteps fresh d (take (d .words + readingTail) (image′ ++ rest)) (take (d .words + readingTail) reading)))
               ≡ programText fresh table sheet hex
           program-found =
-              ap (λ l. planText (planNumber fresh d l (take (d .words + 9) reading)) (bytesOf (planSteps fresh d l (take (d .words + 9) reading)))) (take-at image′ rest (d .words + 9) count ∙ p .image-is)
-              ∙ (given-found fresh d (take (d .words + 9) reading) (readOf d hex image) (sym number-is ∙ y) ∙ read-whole)
+              ap (λ l. planText (planNumber fresh d l (take (d .words + readingTail) reading)) (bytesOf (planSteps fresh d l (take (d .words + readingTail) reading))))
+              (take-at image′ rest (d .words + readingTail) count ∙ p .image-is)
+              ∙ (given-found fresh d (take (d .words + readingTail) reading) (textRead d hex image) (sym number-is ∙ y) ∙ read-whole)
 
 -- ---- each planner has room
 
@@ -163,7 +166,7 @@ program-few d sound n h =
     let rows : d .words / d .row * d .row ≡ d .words = whole-rows d keeps in
     let least : 8 ≤ d .row = row (d .row) (keeps .row-is) .low in
     let eight : d .words / d .row * 8 ≤ d .words / d .row * d .row = mul-le-mul-left (d .words / d .row) least in
-    let most : d .words ≤ 8192 = keeps .most in
+    let most : d .words ≤ mostWords = keeps .most in
     omega arith
 
 pub fresh-few : (d : Device) → deviceOk d ≡ true → (image : List ℕ) → 3 * length (freshSteps d image) ≤ mostStream

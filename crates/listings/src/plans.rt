@@ -1,12 +1,14 @@
 // The programs update and fresh, which differ in nothing but the planner.
 use crate::streams;
 use device::Device;
+use device::READING_TAIL;
 use words::NOT_GIVEN;
 ghost use mathlib.Core.Path.{_≡_};
 ghost use mathlib.Core.Bool.{true};
 ghost use Prim.Native.Nat.{_+_, _≤_};
 ghost use lib.ListN.{length};
 ghost use Rattle.device.specs.Record.{deviceOk};
+ghost use Rattle.device.specs.Memory.{readingTail};
 ghost use Rattle.target.specs.Stream.{bytesOf};
 ghost use Rattle.print.specs.Print.{Prints};
 ghost use Rattle.listings.specs.Streams.{planText, updateText, freshText};
@@ -42,7 +44,7 @@ fn put_program(table: &[u8], sheet: &[u8], hex: &[u8], fresh: bool, out: &mut [u
         return print::refusal(out, 1, 0);
     }
     let device = opened.device;
-    let count = (device.words as usize) + 9;
+    let count = (device.words as usize) + READING_TAIL;
     let mut image = [NOT_GIVEN; board::MOST_READING];
     let given = hexread::read_hex(device, hex, &mut image[..count]);
     if given.number != 0 {
@@ -53,7 +55,7 @@ fn put_program(table: &[u8], sheet: &[u8], hex: &[u8], fresh: bool, out: &mut [u
 
 // The text for an image and a reading: the stream, or the planner's refusal.
 fn put_planned(d: Device, image: &[u16], reading: &[u16], fresh: bool, out: &mut [u8]) -> usize
-    requires { ⌜ (deviceOk d ≡ true) × (length (now reading) ≡ d .words + 9) ⌝ }
+    requires { ⌜ (deviceOk d ≡ true) × (length (now reading) ≡ d .words + readingTail) ⌝ }
     ensures { λ r. ⌜ Prints (planText (planNumber fresh d (now (image .entry)) (now (reading .entry))) (bytesOf (planSteps fresh d (now (image .entry)) (now (reading .entry))))) (now (out .entry)) r (now (out .exit)) ⌝ }
 {
     let mut stream = [0u8; streams::MOST_STREAM];

@@ -3,7 +3,6 @@ use Prim.Native.Nat.{ℕ, suc, _+_, _-_, _*_, _≤_, _<_}
 use native.Mathlib.Nat.{le-refl, le-trans}
 use native.Mathlib.Numerals.{add-one}
 use native.Mathlib.Omega.{arith}
-use native.Mathlib.Decide.{decLe}
 use mathlib.Core.Path.{_≡_, refl, ap, _∙_}
 use mathlib.Core.Bool.{Bool, true, false, _&&_}
 use mathlib.Core.List.{List, [], _∷_}
@@ -90,16 +89,6 @@ decimal-read bound l h = by (isDecimal l && leb (valueOf l) bound) refl
     by false e =
         let none : decimalOf bound l ≡ bound + 1 = (unfold decimalOf in pick-false (isDecimal l && leb (valueOf l) bound) (valueOf l) (bound + 1) e) in
         absurd (omega arith)
-
--- an answer above it: the text is no decimal, or its value is above the bound
-pub decimal-none : (bound : ℕ) (l : List ℕ) → bound < decimalOf bound l → isDecimal l ≡ true → bound < valueOf l
-decimal-none bound l h d = by (decLe (valueOf l) bound)
-  where
-    by : Dec (valueOf l ≤ bound) → bound < valueOf l
-    by (yes p) =
-        let e : decimalOf bound l ≡ valueOf l = (unfold decimalOf in pick-true (isDecimal l && leb (valueOf l) bound) (valueOf l) (bound + 1) (both (isDecimal l) (leb (valueOf l) bound) d (le-leb (valueOf l) bound p))) in
-        absurd (omega arith)
-    by (no p) = omega arith
 
 -- a decimal text up to the bound is read as its value
 pub decimal-value : (bound : ℕ) (l : List ℕ) → isDecimal l ≡ true → valueOf l ≤ bound → decimalOf bound l ≡ valueOf l

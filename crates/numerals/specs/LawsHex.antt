@@ -89,14 +89,6 @@ module _ (digit : ℕ → ℕ) (s : List ℕ) (at high low r : ℕ) where
   unfolding wordBy
   word-read p q e = rw (← p, ← q) e
 
--- a text that has two digits at a place is long enough
-pub byte-within : (digit : ℕ → ℕ) (none : digit 0 ≡ 16) (s : List ℕ) (at : ℕ) → byteBy digit s at < 256 → at + 1 < length s
-byte-within digit none s at h = by (decLt (at + 1) (length s))
-  where
-    by : Dec (at + 1 < length s) → at + 1 < length s
-    by (yes p) = p
-    by (no p) = let e : byteBy digit s at ≡ 256 = byte-short digit none s at (omega arith) in absurd (omega arith)
-
 pub no-digit : digitOf 0 ≡ 16
 unfolding digitOf within pick
 no-digit = refl
@@ -134,10 +126,6 @@ digit-text-lt n h = by (decLt n 10)
 
 pub digit-of-text : (n : ℕ) → n < 16 → digitOf (digitText n) ≡ n
 digit-of-text n h = sym (capital-low (digitText n) (digit-text-lt n h)) ∙ capital-of-text n h
-
--- a printed digit is a byte
-pub digit-text-byte : (n : ℕ) → n < 16 → digitText n < 256
-digit-text-byte n h = let low : digitText n < 0x61 = digit-text-lt n h in omega arith
 
 -- the digits of b at a place are read as b; `reads`: a reading that reads every printed digit
 module _ (digit : ℕ → ℕ) (reads : (n : ℕ) → n < 16 → digit (digitText n) ≡ n) (s : List ℕ) (at : ℕ) where

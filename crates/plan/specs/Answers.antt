@@ -7,59 +7,54 @@ use lib.Dec.{leb, eqb}
 use lib.Bits.{bitAnd}
 use lib.ListN.{length, getD}
 use lib.Seq.{sets}
-use Rattle.words.specs.Choice.{pick}
+use Rattle.words.specs.Choice.{pick, unless}
 use Rattle.device.specs.declared.Device.{Device}
-use Rattle.device.specs.Record.{deviceOk}
-use Rattle.device.specs.Memory.{imageOk, readingOk, protected}
+use Rattle.device.specs.Record.{deviceOk, idFits}
+use Rattle.device.specs.Memory.{deviceId, imageOk, readingOk, protected}
 use Rattle.target.specs.declared.Order.{Order}
 use Rattle.target.specs.Stream.{bytesOf}
 use Rattle.plan.specs.Wanted.{wanted}
-use Rattle.plan.specs.Steps.{updateSteps, freshSteps, readBackSteps}
 use Rattle.plan.specs.declared.Planned.{Planned}
 
--- the word of 8006h is not the record's ID
-unfoldable pub otherId : Device → ℕ → Bool
-otherId d word = not (eqb word (d .id))
+-- a word wants no bit 1 where the reading has 0
+unfoldable pub onlyClears : (wanted reading : ℕ) → Bool
+onlyClears wanted reading = eqb (bitAnd reading wanted) wanted
 
--- a configuration word wants no bit 1 where the reading has 0
-unfoldable pub canWrite : (wanted reading : ℕ) → Bool
-canWrite wanted reading = eqb (bitAnd reading wanted) wanted
-
+-- both configuration words, since nothing erases them in an update
 unfoldable pub configOk : Device → (image reading : List ℕ) → Bool
 configOk d image reading =
-    canWrite (wanted image reading (d .words + 7)) (getD reading (d .words + 7) 0)
-    && canWrite (wanted image reading (d .words + 8)) (getD reading (d .words + 8) 0)
+    onlyClears (wanted d image reading (d .words + 7)) (getD reading (d .words + 7) 0)
+    && onlyClears (wanted d image reading (d .words + 8)) (getD reading (d .words + 8) 0)
 
 -- ---- refusals, 26 apart
 
 unfoldable pub updateNumber : Device → (image reading : List ℕ) → ℕ
 updateNumber d image reading =
-    pick (deviceOk d)
-    (pick (imageOk (d .words) image)
-    (pick (readingOk (d .words) reading)
-    (pick (otherId d (getD reading (d .words + 6) 0)) 22
-    (pick (protected (d .words) reading) 23
-    (pick (configOk d image reading) 0
-    24))) 21) 20) 13
+    unless (deviceOk d) 13
+    (unless (imageOk (d .words) image) 20
+    (unless (readingOk (d .words) reading) 21
+    (unless (idFits d (getD reading (d .words + deviceId) 0)) 22
+    (unless (not (protected (d .words) reading)) 23
+    (unless (configOk d image reading) 24
+    0)))))
 
 unfoldable pub freshNumber : Device → (image : List ℕ) → (idWord : ℕ) → ℕ
 freshNumber d image idWord =
-    pick (deviceOk d)
-    (pick (imageOk (d .words) image)
-    (pick (otherId d idWord) 22
-    0) 20) 13
+    unless (deviceOk d) 13
+    (unless (imageOk (d .words) image) 20
+    (unless (idFits d idWord) 22
+    0))
 
 unfoldable pub readBackNumber : Device → ℕ
-readBackNumber d = pick (deviceOk d) 0 13
+readBackNumber d = unless (deviceOk d) 13 0
 
 -- ---- a plan: a refusal, 26 for a buffer that is too short, or the number of steps
 
 unfoldable pub planned : (number : ℕ) → List Order → (out : List ℕ) → Planned
 planned number steps out =
-    pick (eqb number 0)
-    (pick (leb (3 * length steps) (length out)) (record { number = 0; steps = length steps })
-    (record { number = 26; steps = 0 }))
-    (record { number = number; steps = 0 })
+    unless (eqb number 0) (record { number = number; steps = 0 })
+    (unless (leb (3 * length steps) (length out)) (record { number = 26; steps = 0 })
+    (record { number = 0; steps = length steps }))
 
 -- bytes past the stream stay, and a refusal writes nothing
 unfoldable pub plannedOut : (number : ℕ) → List Order → (out : List ℕ) → List ℕ

@@ -9,13 +9,17 @@ use native.Mathlib.Omega.{arith}
 use borrow.Author.Tests.{eqb-true, eq-eqb}
 use Rattle.words.specs.Choice.{pick}
 use Rattle.device.specs.declared.Device.{Device}
+use Rattle.device.specs.Memory.{readingTail}
+use Rattle.target.specs.Chip.{chipOf}
 use Rattle.target.specs.Step.{soundCells}
+use Rattle.target.specs.Run.{modelOf}
+use Rattle.target.specs.Cut.{Recovers}
 use Rattle.target.specs.Stream.{bytesOf}
-use Rattle.target.specs.LawsBoard.{length-bytes}
+use Rattle.target.specs.LawsStream.{length-bytes}
 use Rattle.target.specs.declared.Order.{Order}
 use Rattle.plan.specs.Steps.{updateSteps, freshSteps}
-use Rattle.plan.specs.Answers.{updateNumber, freshNumber, planned, plannedOut, Plans}
-use Rattle.plan.specs.Demands.{programmed, Recovers}
+use Rattle.plan.specs.Answers.{updateNumber, freshNumber, planned, Plans}
+use Rattle.plan.specs.Demands.{programmed}
 use Rattle.plan.specs.LawsDemands.{plan-bytes}
 use Rattle.plan.specs.LawsUpdate.{update-recovers}
 use Rattle.plan.specs.LawsFresh.{fresh-recovers}
@@ -67,17 +71,17 @@ module _ (number : ℕ) (s : List Order) (out : List ℕ) (r : Planned) (out′ 
 
 -- an update: the reading was true of the cells before the first run
 pub update-call-recovers : (d : Device) (image reading out : List ℕ) (r : Planned) (out′ : List ℕ) → Plans (updateNumber d image reading) (updateSteps d image reading) out r out′ → r .number ≡ 0
-    → (cells : List ℕ) → soundCells d cells ≡ true → ((i : ℕ) → i < d .words + 9 → getD cells i 0 ≡ getD reading i 0)
-    → Recovers d (take (3 * r .steps) out′) cells (programmed d image reading cells)
+    → (cells : List ℕ) → soundCells (chipOf d) cells ≡ true → ((i : ℕ) → i < d .words + readingTail → getD cells i 0 ≡ getD reading i 0)
+    → Recovers (modelOf d) (take (3 * r .steps) out′) cells (programmed d image reading cells)
 update-call-recovers d image reading out r out′ p ok cells s held =
     let bytes : take (3 * r .steps) out′ ≡ bytesOf (updateSteps d image reading) = call-bytes (updateNumber d image reading) (updateSteps d image reading) out r out′ p ok in
     let number : updateNumber d image reading ≡ 0 = call-number (updateNumber d image reading) (updateSteps d image reading) out r out′ p ok in
-    subst (λ z. Recovers d z cells (programmed d image reading cells)) (sym bytes) (update-recovers d image reading cells number s held)
+    subst (λ z. Recovers (modelOf d) z cells (programmed d image reading cells)) (sym bytes) (update-recovers d image reading cells number s held)
 
 -- a fresh programming: of any sound cells, protected or not
 pub fresh-call-recovers : (d : Device) (image : List ℕ) (idWord : ℕ) (out : List ℕ) (r : Planned) (out′ : List ℕ) → Plans (freshNumber d image idWord) (freshSteps d image) out r out′ → r .number ≡ 0
-    → (cells : List ℕ) → soundCells d cells ≡ true → Recovers d (take (3 * r .steps) out′) cells (programmed d image [] cells)
+    → (cells : List ℕ) → soundCells (chipOf d) cells ≡ true → Recovers (modelOf d) (take (3 * r .steps) out′) cells (programmed d image [] cells)
 fresh-call-recovers d image idWord out r out′ p ok cells s =
     let bytes : take (3 * r .steps) out′ ≡ bytesOf (freshSteps d image) = call-bytes (freshNumber d image idWord) (freshSteps d image) out r out′ p ok in
     let number : freshNumber d image idWord ≡ 0 = call-number (freshNumber d image idWord) (freshSteps d image) out r out′ p ok in
-    subst (λ z. Recovers d z cells (programmed d image [] cells)) (sym bytes) (fresh-recovers d image idWord cells number s)
+    subst (λ z. Recovers (modelOf d) z cells (programmed d image [] cells)) (sym bytes) (fresh-recovers d image idWord cells number s)

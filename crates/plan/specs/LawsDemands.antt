@@ -14,32 +14,33 @@ use Rattle.words.specs.Word.{erased, notGiven}
 use Rattle.words.specs.LawsChoice.{pick-true, pick-false}
 use Rattle.words.specs.LawsLists.{getD-build}
 use Rattle.device.specs.declared.Device.{Device}
+use Rattle.device.specs.Memory.{programmable}
 use Rattle.target.specs.Stream.{bytesOf}
-use Rattle.target.specs.LawsBoard.{length-bytes}
+use Rattle.target.specs.LawsStream.{length-bytes}
 use Rattle.target.specs.declared.Order.{Order}
 use Rattle.plan.specs.Wanted.{known, wanted}
 use Rattle.plan.specs.Answers.{planned, plannedOut}
-use Rattle.plan.specs.Demands.{programmable, programmed}
+use Rattle.plan.specs.Demands.{programmed}
 use Rattle.plan.specs.LawsWanted.{wanted-silent, wanted-given}
 
 -- ---- the programmed cells, word by word
 
 module _ (d : Device) (image reading first : List ℕ) (i : ℕ) (h : i < length first) where
-  entry : getD (programmed d image reading first) i 0 ≡ pick (programmable d i) (wanted image reading i) (getD first i 0)
+  entry : getD (programmed d image reading first) i 0 ≡ pick (programmable (d .words) i) (wanted d image reading i) (getD first i 0)
   unfolding programmed
   entry = getD-build (length first) _ i h
 
   -- a word that the image gives has its new value
-  pub given-word : programmable d i ≡ true → (getD image i notGiven ≡ notGiven → ⊥) → getD (programmed d image reading first) i 0 ≡ getD image i notGiven
-  given-word p g = entry ∙ (pick-true (programmable d i) _ _ p ∙ wanted-given image reading i g)
+  pub given-word : programmable (d .words) i ≡ true → (getD image i notGiven ≡ notGiven → ⊥) → getD (programmed d image reading first) i 0 ≡ getD image i notGiven
+  given-word p g = entry ∙ (pick-true (programmable (d .words) i) _ _ p ∙ wanted-given d image reading i g)
 
   -- a word that it does not give is the known one
-  pub silent-word : programmable d i ≡ true → getD image i notGiven ≡ notGiven → getD (programmed d image reading first) i 0 ≡ known reading i
-  silent-word p g = entry ∙ (pick-true (programmable d i) _ _ p ∙ wanted-silent image reading i g)
+  pub silent-word : programmable (d .words) i ≡ true → getD image i notGiven ≡ notGiven → getD (programmed d image reading first) i 0 ≡ known reading i
+  silent-word p g = entry ∙ (pick-true (programmable (d .words) i) _ _ p ∙ wanted-silent d image reading i g)
 
   -- any other word is as it was
-  pub other-word : programmable d i ≡ false → getD (programmed d image reading first) i 0 ≡ getD first i 0
-  other-word p = entry ∙ pick-false (programmable d i) _ _ p
+  pub other-word : programmable (d .words) i ≡ false → getD (programmed d image reading first) i 0 ≡ getD first i 0
+  other-word p = entry ∙ pick-false (programmable (d .words) i) _ _ p
 
 -- for a fresh programming 'known' is erased
 pub nothing-known : (i : ℕ) → known [] i ≡ erased

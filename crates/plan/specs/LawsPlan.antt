@@ -1,5 +1,5 @@
 -- The promise of the three planners, and the ways to keep it: a refusal, a buffer that is too short, a stream.
-use Prim.Native.Nat.{ℕ, _+_, _*_, _/_, _%_, _≤_, _<_}
+use Prim.Native.Nat.{ℕ, _+_, _*_, _≤_, _<_}
 use native.Mathlib.Omega.{arith}
 use mathlib.Core.Path.{_≡_, refl, sym, ap, _∙_}
 use mathlib.Core.Bool.{Bool, true, false}
@@ -8,21 +8,18 @@ use lib.Dec.{leb, eqb}
 use lib.ListN.{length, getD}
 use lib.Seq.{sets}
 use borrow.Author.Tests.{eq-eqb, ne-eqb, le-leb, lt-leb}
-use Rattle.words.specs.Choice.{pick}
-use Rattle.words.specs.Word.{bit, wordsOf}
+use Rattle.words.specs.Choice.{pick, unless}
 use Rattle.words.specs.LawsChoice.{pick-true, pick-false}
-use Rattle.words.specs.LawsWord.{words-long, bit-seven}
+use Rattle.words.specs.LawsWord.{words-long}
 use Rattle.device.specs.declared.Device.{Device}
-use Rattle.device.specs.Record.{deviceOk, recordNumber}
-use Rattle.device.specs.Memory.{imageOk, readingOk, protected}
+use Rattle.device.specs.Record.{deviceOk, idFits, recordNumber}
+use Rattle.device.specs.Memory.{readingTail, deviceId, imageOk, readingOk, protected}
 use Rattle.device.specs.LawsRecord.{Rules, ok-of-judged, rules-of-judged, bad-of-judged}
 use Rattle.target.specs.declared.Order.{Order}
 use Rattle.target.specs.Stream.{bytesOf}
-use Rattle.plan.specs.Wanted.{known, wanted}
-use Rattle.plan.specs.Answers.{otherId, canWrite, configOk, updateNumber, freshNumber, readBackNumber, planned, plannedOut, Plans}
-use Rattle.plan.specs.LawsPlanWanted.{known-inside}
+use Rattle.plan.specs.Wanted.{wanted}
+use Rattle.plan.specs.Answers.{onlyClears, configOk, updateNumber, freshNumber, readBackNumber, planned, plannedOut, Plans}
 use Rattle.plan.specs.LawsPlanWrote.{Wrote}
-use Rattle.plan.specs.declared.Planned.{Planned}
 
 module _ (number : ℕ) (steps : List Order) (out : List ℕ) where
   refused-is : (number ≡ 0 → ⊥) → planned number steps out ≡ record { number = number; steps = 0 }
@@ -74,10 +71,10 @@ module _ (d : Device) (n : ℕ) (judged : n ≡ recordNumber d) where
   unfolding readBackNumber
   read-back-0 e = sym (pick-true (deviceOk d) 0 13 (ok-of-judged d (sym judged ∙ e)))
 
-  pub judged-ok : n ≡ 0 → deviceOk d ≡ true
+  judged-ok : n ≡ 0 → deviceOk d ≡ true
   judged-ok e = ok-of-judged d (sym judged ∙ e)
 
-  pub judged-bad : (n ≡ 0 → ⊥) → deviceOk d ≡ false
+  judged-bad : (n ≡ 0 → ⊥) → deviceOk d ≡ false
   judged-bad h = bad-of-judged d (λ e. h (judged ∙ e))
 
   pub rules-judged : n ≡ 0 → Rules d
@@ -85,55 +82,44 @@ module _ (d : Device) (n : ℕ) (judged : n ≡ recordNumber d) where
 
 -- ---- refusals of an update, in the code's order
 
--- P + 9 words are a reading
-pub as-reading : (words : ℕ) (reading : List ℕ) → readingOk words reading ≡ wordsOf (words + 9) reading
+pub reading-long : (words : ℕ) (reading : List ℕ) → readingOk words reading ≡ true → length reading ≡ words + readingTail
 unfolding readingOk
-as-reading words reading = refl
+reading-long words reading e = words-long (words + readingTail) reading e
 
--- within a reading the code's word is the reading's
-pub known-at : (words k : ℕ) (reading : List ℕ) → length reading ≡ words + 9 → k < 9 → known reading (words + k) ≡ getD reading (words + k) 0
-known-at words k reading e h = sym (known-inside reading (words + k) (rw e (omega arith)))
-
-module _ (d : Device) (image reading : List ℕ) where
-  pub update-13 : deviceOk d ≡ false → 13 ≡ updateNumber d image reading
+-- each with what the calls before it answered: the record's number, and the tests a, b, i, p and q
+module _ (d : Device) (image reading : List ℕ) (n : ℕ) (judged : n ≡ recordNumber d) where
+  pub update-13 : (n ≡ 0 → ⊥) → 13 ≡ updateNumber d image reading
   unfolding updateNumber pick
-  update-13 a = rw a
+  update-13 h = rw (judged-bad d n judged h)
 
-  module _ (a : deviceOk d ≡ true) where
-    pub update-20 : imageOk (d .words) image ≡ false → 20 ≡ updateNumber d image reading
+  module _ (z : n ≡ 0) (a : Bool) (is-image : a ≡ imageOk (d .words) image) where
+    pub update-20 : a ≡ false → 20 ≡ updateNumber d image reading
     unfolding updateNumber pick
-    update-20 b = rw (a, b)
+    update-20 f = rw (judged-ok d n judged z, ← is-image, f)
 
-    module _ (b : imageOk (d .words) image ≡ true) where
-      pub update-21 : readingOk (d .words) reading ≡ false → 21 ≡ updateNumber d image reading
+    module _ (image-ok : a ≡ true) (b : Bool) (is-reading : b ≡ readingOk (d .words) reading) where
+      pub update-21 : b ≡ false → 21 ≡ updateNumber d image reading
       unfolding updateNumber pick
-      update-21 c = rw (a, b, c)
+      update-21 f = rw (judged-ok d n judged z, ← is-image, image-ok, ← is-reading, f)
 
-      module _ (c : readingOk (d .words) reading ≡ true) (id : ℕ) (i : id ≡ known reading (d .words + 6)) where
-        id-is : id ≡ getD reading (d .words + 6) 0
-        unfolding readingOk
-        id-is = i ∙ known-at (d .words) 6 reading (words-long (d .words + 9) reading c) (omega arith)
+      module _ (reading-ok : b ≡ true) (i : Bool) (id-fits : i ≡ idFits d (getD reading (d .words + deviceId) 0)) where
+        pub update-22 : i ≡ false → 22 ≡ updateNumber d image reading
+        unfolding updateNumber pick
+        update-22 f = rw (judged-ok d n judged z, ← is-image, image-ok, ← is-reading, reading-ok, ← id-fits, f)
 
-        pub update-22 : (id ≡ d .id → ⊥) → 22 ≡ updateNumber d image reading
-        unfolding updateNumber otherId pick
-        update-22 n = rw (a, b, c, ← id-is, ne-eqb id (d .id) n)
+        module _ (id-ok : i ≡ true) (p : Bool) (is-protected : p ≡ protected (d .words) reading) where
+          pub update-23 : p ≡ true → 23 ≡ updateNumber d image reading
+          unfolding updateNumber pick
+          update-23 f = rw (judged-ok d n judged z, ← is-image, image-ok, ← is-reading, reading-ok, ← id-fits, id-ok, ← is-protected, f)
 
-        module _ (same : id ≡ d .id) (w : ℕ) (e : w ≡ known reading (d .words + 7)) where
-          cp-is : protected (d .words) reading ≡ eqb (w / 128 % 2) 0
-          unfolding protected readingOk
-          cp-is = ap (λ x. eqb (bit x 7) 0) (sym (e ∙ known-at (d .words) 7 reading (words-long (d .words + 9) reading c) (omega arith))) ∙ ap (λ x. eqb x 0) (bit-seven w)
+          module _ (not-protected : p ≡ false) (q : Bool) (config-is : q ≡ configOk d image reading) where
+            pub update-24 : q ≡ false → 24 ≡ updateNumber d image reading
+            unfolding updateNumber pick
+            update-24 f = rw (judged-ok d n judged z, ← is-image, image-ok, ← is-reading, reading-ok, ← id-fits, id-ok, ← is-protected, not-protected, ← config-is, f)
 
-          pub update-23 : w / 128 % 2 ≡ 0 → 23 ≡ updateNumber d image reading
-          unfolding updateNumber otherId pick
-          update-23 p = rw (a, b, c, ← id-is, eq-eqb id (d .id) same, cp-is, eq-eqb (w / 128 % 2) 0 p)
-
-          pub update-24 : (w / 128 % 2 ≡ 0 → ⊥) → configOk d image reading ≡ false → 24 ≡ updateNumber d image reading
-          unfolding updateNumber otherId pick
-          update-24 p q = rw (a, b, c, ← id-is, eq-eqb id (d .id) same, cp-is, ne-eqb (w / 128 % 2) 0 p, q)
-
-          pub update-0 : (w / 128 % 2 ≡ 0 → ⊥) → configOk d image reading ≡ true → 0 ≡ updateNumber d image reading
-          unfolding updateNumber otherId pick
-          update-0 p q = rw (a, b, c, ← id-is, eq-eqb id (d .id) same, cp-is, ne-eqb (w / 128 % 2) 0 p, q)
+            pub update-0 : q ≡ true → 0 ≡ updateNumber d image reading
+            unfolding updateNumber pick
+            update-0 t = rw (judged-ok d n judged z, ← is-image, image-ok, ← is-reading, reading-ok, ← id-fits, id-ok, ← is-protected, not-protected, ← config-is, t)
 
 -- what an update that is not refused goes by
 pub record Sound (d : Device) (image reading : List ℕ) : Type 0 where
@@ -141,7 +127,7 @@ pub record Sound (d : Device) (image reading : List ℕ) : Type 0 where
   pub image-is : imageOk (d .words) image ≡ true
   pub reading-is : readingOk (d .words) reading ≡ true
 
-passed : (a b c : Bool) (x : ℕ) → pick a (pick b (pick c x 21) 20) 13 ≡ 0 → (a ≡ true) × (b ≡ true) × (c ≡ true)
+passed : (a b c : Bool) (x : ℕ) → unless a 13 (unless b 20 (unless c 21 x)) ≡ 0 → (a ≡ true) × (b ≡ true) × (c ≡ true)
 unfolding pick
 passed true true true x z = (refl, refl, refl)
 passed true true false x z = absurd (omega arith)
@@ -155,40 +141,43 @@ update-sound d image reading n e z =
     record { device = t .0; image-is = t .1; reading-is = t .2 }
 
 -- both configuration words
-module _ (d : Device) (image reading : List ℕ) (long : length reading ≡ d .words + 9) (a b : ℕ) (p : a ≡ wanted image reading (d .words + 7)) (q : b ≡ known reading (d .words + 7)) (r : Bool) (e : r ≡ canWrite a b) where
-  first-is : r ≡ canWrite (wanted image reading (d .words + 7)) (getD reading (d .words + 7) 0)
-  first-is = e ∙ rw (p, q ∙ known-at (d .words) 7 reading long (omega arith))
+module _ (d : Device) (image reading : List ℕ) (a : ℕ) (p : a ≡ wanted d image reading (d .words + 7)) (r : Bool) (e : r ≡ onlyClears a (getD reading (d .words + 7) 0)) where
+  first-is : r ≡ onlyClears (wanted d image reading (d .words + 7)) (getD reading (d .words + 7) 0)
+  first-is = e ∙ rw p
 
   pub config-first : r ≡ false → false ≡ configOk d image reading
   unfolding configOk
   config-first f = rw (← first-is, f)
 
-  pub config-both : r ≡ true → (a′ b′ : ℕ) → a′ ≡ wanted image reading (d .words + 8) → b′ ≡ known reading (d .words + 8) → (r′ : Bool) → r′ ≡ canWrite a′ b′ → r′ ≡ configOk d image reading
+  pub config-both : r ≡ true → (b : ℕ) → b ≡ wanted d image reading (d .words + 8) → (s : Bool) → s ≡ onlyClears b (getD reading (d .words + 8) 0) → s ≡ configOk d image reading
   unfolding configOk
-  config-both t a′ b′ p′ q′ r′ e′ = rw (← first-is, t) (e′ ∙ rw (p′, q′ ∙ known-at (d .words) 8 reading long (omega arith)))
+  config-both t b q s f = rw (← first-is, t) (f ∙ rw q)
 
 -- ---- refusals of a fresh programming
 
+module _ (d : Device) (image : List ℕ) (idWord n : ℕ) (judged : n ≡ recordNumber d) where
+  pub fresh-13 : (n ≡ 0 → ⊥) → 13 ≡ freshNumber d image idWord
+  unfolding freshNumber pick
+  fresh-13 h = rw (judged-bad d n judged h)
+
+  module _ (z : n ≡ 0) (a : Bool) (is-image : a ≡ imageOk (d .words) image) where
+    pub fresh-20 : a ≡ false → 20 ≡ freshNumber d image idWord
+    unfolding freshNumber pick
+    fresh-20 f = rw (judged-ok d n judged z, ← is-image, f)
+
+    module _ (image-ok : a ≡ true) (i : Bool) (id-fits : i ≡ idFits d idWord) where
+      pub fresh-22 : i ≡ false → 22 ≡ freshNumber d image idWord
+      unfolding freshNumber pick
+      fresh-22 f = rw (judged-ok d n judged z, ← is-image, image-ok, ← id-fits, f)
+
+      pub fresh-0 : i ≡ true → 0 ≡ freshNumber d image idWord
+      unfolding freshNumber pick
+      fresh-0 t = rw (judged-ok d n judged z, ← is-image, image-ok, ← id-fits, t)
+
 module _ (d : Device) (image : List ℕ) (idWord : ℕ) where
-  pub fresh-13 : deviceOk d ≡ false → 13 ≡ freshNumber d image idWord
-  unfolding freshNumber pick
-  fresh-13 a = rw a
-
-  pub fresh-20 : deviceOk d ≡ true → imageOk (d .words) image ≡ false → 20 ≡ freshNumber d image idWord
-  unfolding freshNumber pick
-  fresh-20 a b = rw (a, b)
-
-  pub fresh-22 : deviceOk d ≡ true → imageOk (d .words) image ≡ true → (idWord ≡ d .id → ⊥) → 22 ≡ freshNumber d image idWord
-  unfolding freshNumber otherId pick
-  fresh-22 a b n = rw (a, b, ne-eqb idWord (d .id) n)
-
-  pub fresh-0 : deviceOk d ≡ true → imageOk (d .words) image ≡ true → idWord ≡ d .id → 0 ≡ freshNumber d image idWord
-  unfolding freshNumber otherId pick
-  fresh-0 a b e = rw (a, b, eq-eqb idWord (d .id) e)
-
   pub fresh-sound : (n : ℕ) → n ≡ freshNumber d image idWord → n ≡ 0 → (deviceOk d ≡ true) × (imageOk (d .words) image ≡ true)
   unfolding freshNumber
   fresh-sound n e z = both-passed (deviceOk d) (imageOk (d .words) image) _ (sym e ∙ z)
     where
-      both-passed : (a b : Bool) (x : ℕ) → pick a (pick b x 20) 13 ≡ 0 → (a ≡ true) × (b ≡ true)
+      both-passed : (a b : Bool) (x : ℕ) → unless a 13 (unless b 20 x) ≡ 0 → (a ≡ true) × (b ≡ true)
       both-passed a b x h = let t = passed a b true x (rw (pick-true true x 21 refl) h) in (t .0, t .1)

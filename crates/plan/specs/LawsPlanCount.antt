@@ -9,11 +9,13 @@ use Rattle.words.specs.Word.{erased}
 use Rattle.device.specs.declared.Device.{Device}
 use Rattle.device.specs.Record.{mostWords}
 use Rattle.device.specs.LawsRecord.{Rules}
+use Rattle.target.specs.Chip.{Chip, chipOf}
+use Rattle.target.specs.LawsChip.{SoundChip}
 use Rattle.target.specs.declared.Order.{Order}
 use Rattle.target.specs.declared.Order.the-variants.{LoadConfiguration, ResetAddress, BulkErase}
-use Rattle.plan.specs.Wanted.{differs, some}
-use Rattle.plan.specs.Steps.{erasing, rowSteps, rowsFrom, wordSteps, writesFrom, configSteps, updateSteps, freshSteps, readBackSteps}
-use Rattle.plan.specs.LawsPlanSteps.{bodySteps, erasing-yes, erasing-no, rows-yes, writes-yes, config-yes, config-no, update-opens, fresh-opens}
+use Rattle.plan.specs.Wanted.{known, wanted, some, idDiffers}
+use Rattle.plan.specs.Steps.{erasing, rowSteps, rowsFrom, wordSteps, writesFrom, configSteps, taskOf, bodyOf, updateSteps, freshSteps, readBackSteps}
+use Rattle.plan.specs.LawsPlanSteps.{erasing-yes, erasing-no, rows-yes, writes-yes, config-yes, config-no, update-opens, fresh-opens}
 use Rattle.plan.specs.LawsPlanBounds.{length-row, length-word, read-back-count}
 
 -- the promise of every count, with a bound that keeps sums of counts small
@@ -81,13 +83,14 @@ no-erase-counted b e = counts-same 1 _ _ 0 (sym (erasing-no b e)) (record { is =
 
 -- one turn of each loop: a row or a word that is written
 module _ (most : ℕ) (all : List Order) where
-  pub row-counted : (erase : Bool) (word : ℕ → ℕ) (chosen : ℕ → Bool) (row n k at r e : ℕ) → 0 < row → Counts 1 (erasing erase) e → k < n → chosen k ≡ true
-      → Counting most all (rowsFrom erase word chosen row (n - k) k at) r
-      → Counting most all (rowsFrom erase word chosen row (n - (k + 1)) (k + 1) (k * row + (row - 1))) (r + ((k * row - at) + (e + 2 * row)))
-  row-counted erase word chosen row n k at r e h c l t w =
-      counting-then most all (rowSteps erase word at (k * row) row) _ r _
-      (counting-same most all _ _ r (rows-yes erase word chosen row n k at l t) w)
-      (ap (λ m. (k * row - at) + (m + 2 * row)) (c .is) ∙ sym (length-row erase word at (k * row) row h))
+  pub row-counted : (chip : Chip) (erase : ℕ → Bool) (word : ℕ → ℕ) (chosen : ℕ → Bool) (n k at r e m : ℕ)
+      → SoundChip chip → Counts 1 (erasing (erase k)) e → m ≡ (k * chip .row - at) + (e + (chip .sets - 1 + 2 * chip .row)) → k < n → chosen k ≡ true
+      → Counting most all (rowsFrom chip erase word chosen (n - k) k at) r
+      → Counting most all (rowsFrom chip erase word chosen (n - (k + 1)) (k + 1) (k * chip .row + (chip .row - 1))) (r + m)
+  row-counted chip erase word chosen n k at r e m h c f l t w =
+      counting-then most all (rowSteps chip (erase k) word at (k * chip .row)) _ r m
+      (counting-same most all _ _ r (rows-yes chip erase word chosen n k at l t) w)
+      (f ∙ (ap (λ x. (k * chip .row - at) + (x + (chip .sets - 1 + 2 * chip .row))) (c .is) ∙ sym (length-row chip h (erase k) word at (k * chip .row))))
 
   pub word-counted : (word : ℕ → ℕ) (chosen : ℕ → Bool) (n k at r : ℕ) → k < n → chosen k ≡ true
       → Counting most all (writesFrom word chosen (n - k) k at) r
@@ -97,28 +100,34 @@ module _ (most : ℕ) (all : List Order) where
       (counting-same most all _ _ r (writes-yes word chosen n k at l t) w)
       (sym (length-word (word k) at k))
 
-module _ (erase : Bool) (word : ℕ → ℕ) (chosen : ℕ → Bool) where
-  pub config-counted : (e w : ℕ) → some 9 chosen ≡ true → Counts 1 (erasing erase) e → Counts writesMost (writesFrom word chosen 9 0 0) w → Counts configMost (configSteps erase word chosen) (1 + e + w)
-  config-counted e w s p q =
-      counts-same configMost _ _ (1 + e + w) (sym (config-yes erase word chosen s))
-      (counts-then 2 writesMost (LoadConfiguration erased ∷ erasing erase) (writesFrom word chosen 9 0 0) (1 + e) w
+module _ (chip : Chip) (erase : Bool) (word : ℕ → ℕ) (chosen : ℕ → Bool) where
+  pub config-counted : (most e w : ℕ) → some (chip .readingTail) chosen ≡ true → Counts 1 (erasing erase) e
+      → Counts most (writesFrom (λ k. word (chip .words + k)) chosen (chip .readingTail) 0 0) w
+      → Counts (2 + most) (configSteps chip erase word chosen) (1 + e + w)
+  config-counted most e w s p q =
+      counts-same (2 + most) _ _ (1 + e + w) (sym (config-yes chip erase word chosen s))
+      (counts-then 2 most (LoadConfiguration erased ∷ erasing erase) (writesFrom (λ k. word (chip .words + k)) chosen (chip .readingTail) 0 0) (1 + e) w
       (counts-then 1 1 (LoadConfiguration erased ∷ []) (erasing erase) 1 e (record { is = refl; few = omega arith }) p)
       q)
 
-  pub no-config-counted : some 9 chosen ≡ false → Counts configMost (configSteps erase word chosen) 0
-  no-config-counted s = counts-same configMost _ _ 0 (sym (config-no erase word chosen s)) (record { is = refl; few = omega arith })
+  pub no-config-counted : (most : ℕ) → some (chip .readingTail) chosen ≡ false → Counts most (configSteps chip erase word chosen) 0
+  no-config-counted most s = counts-same most _ _ 0 (sym (config-no chip erase word chosen s)) (record { is = refl; few = omega arith })
 
 -- ---- the streams
 
-pub update-counted : (d : Device) (image reading : List ℕ) (all : Bool) (b : ℕ) → all ≡ some 4 (λ j. differs image reading (d .words + j)) → Counts bodyMost (bodySteps d image reading true all) b → Counts (1 + bodyMost) (updateSteps d image reading) (1 + b)
-update-counted d image reading all b e c =
-    counts-same (1 + bodyMost) _ _ (1 + b) (sym (update-opens d image reading all e))
-    (counts-then 1 bodyMost (ResetAddress ∷ []) (bodySteps d image reading true all) 1 b (record { is = refl; few = omega arith }) c)
+pub update-counted : (d : Device) (image reading : List ℕ) (ids : Bool) (b : ℕ) → ids ≡ idDiffers (chipOf d) (wanted d image reading) (known reading)
+    → Counts bodyMost (bodyOf (chipOf d) (taskOf (chipOf d) (wanted d image reading) (known reading) (λ k. true) ids ids)) b
+    → Counts (1 + bodyMost) (updateSteps d image reading) (1 + b)
+update-counted d image reading ids b e c =
+    counts-same (1 + bodyMost) _ _ (1 + b) (sym (update-opens d image reading ids e))
+    (counts-then 1 bodyMost (ResetAddress ∷ []) _ 1 b (record { is = refl; few = omega arith }) c)
 
-pub fresh-counted : (d : Device) (image : List ℕ) (b : ℕ) → Counts bodyMost (bodySteps d image [] false false) b → Counts (3 + bodyMost) (freshSteps d image) (3 + b)
+pub fresh-counted : (d : Device) (image : List ℕ) (b : ℕ)
+    → Counts bodyMost (bodyOf (chipOf d) (taskOf (chipOf d) (wanted d image []) (known []) (λ k. false) false false)) b
+    → Counts (3 + bodyMost) (freshSteps d image) (3 + b)
 fresh-counted d image b c =
     counts-same (3 + bodyMost) _ _ (3 + b) (sym (fresh-opens d image))
-    (counts-then 3 bodyMost (LoadConfiguration erased ∷ BulkErase ∷ ResetAddress ∷ []) (bodySteps d image [] false false) 3 b (record { is = refl; few = omega arith }) c)
+    (counts-then 3 bodyMost (LoadConfiguration erased ∷ BulkErase ∷ ResetAddress ∷ []) _ 3 b (record { is = refl; few = omega arith }) c)
 
 pub read-back-counted : (d : Device) → Rules d → Counts bodyMost (readBackSteps d) (2 * d .words + 18)
 read-back-counted d r =

@@ -7,7 +7,7 @@ use mir.Val.{Fits}
 use Rattle.target.specs.declared.Order.{Order}
 use Rattle.target.specs.declared.Order.the-variants.{LoadConfiguration, LoadData, Read, Increment, ResetAddress, Begin, BulkErase, RowErase}
 use Rattle.target.specs.Stream.{codeOf, payloadOf}
-use Rattle.target.specs.LawsBoard.{FitsOrder}
+use Rattle.target.specs.LawsStream.{FitsOrder}
 
 module _ (o : Order) where
   pub load-configuration-code : (w : ℕ) → o ≡ LoadConfiguration w → 0x00 ≡ codeOf o

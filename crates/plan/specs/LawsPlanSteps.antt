@@ -10,11 +10,11 @@ use Rattle.words.specs.Choice.{pick}
 use Rattle.words.specs.Word.{erased}
 use Rattle.words.specs.LawsChoice.{pick-true, pick-false}
 use Rattle.device.specs.declared.Device.{Device}
-use Rattle.target.specs.declared.Order.{Order}
+use Rattle.target.specs.Chip.{Chip, chipOf}
 use Rattle.target.specs.declared.Order.the-variants.{LoadConfiguration, LoadData, Read, Increment, ResetAddress, Begin, BulkErase, RowErase}
-use Rattle.plan.specs.Wanted.{wanted, differs, some}
-use Rattle.plan.specs.LawsPlanWanted.{rowChanges, row-changes, chosen, ids-open, update-chosen, fresh-chosen}
-use Rattle.plan.specs.Steps.{walk, loads, erasing, rowSteps, rowsFrom, wordSteps, writesFrom, configSteps, updateSteps, freshSteps, reads, readBackSteps}
+use Rattle.plan.specs.Wanted.{known, wanted, some, rowDiffers, idDiffers, configWrites}
+use Rattle.plan.specs.Steps.{walk, loads, setSteps, erasing, rowSteps, rowsFrom, wordSteps, writesFrom, configSteps, taskOf, bodyOf}
+use Rattle.plan.specs.Steps.{updateTask, updateSteps, freshTask, freshSteps, reads, readSteps, readBackSteps}
 
 -- one less is left
 one-less : (n k : ℕ) → k < n → n - k ≡ suc (n - (k + 1))
@@ -76,30 +76,39 @@ erasing-yes b e = ap erasing e ∙ (unfold erasing in refl)
 pub erasing-no : (b : Bool) → b ≡ false → erasing b ≡ []
 erasing-no b e = ap erasing e ∙ (unfold erasing in refl)
 
-pub row-opens : (erase : Bool) (word : ℕ → ℕ) (at first row : ℕ) → rowSteps erase word at first row ≡ walk at first ++ (erasing erase ++ (loads word first row ++ Begin ∷ []))
-unfolding rowSteps
-row-opens erase word at first row = refl
+-- a row that is one latch set
+pub row-opens : (d : Device) (erase : Bool) (word : ℕ → ℕ) (at first : ℕ)
+    → rowSteps (chipOf d) erase word at first ≡ walk at first ++ (erasing erase ++ (loads word first (d .row) ++ Begin ∷ []))
+unfolding rowSteps setSteps
+row-opens d erase word at first = refl
 
-module _ (erase : Bool) (word : ℕ → ℕ) (chosen : ℕ → Bool) (row n k at : ℕ) where
+module _ (chip : Chip) (erase : ℕ → Bool) (word : ℕ → ℕ) (chosen : ℕ → Bool) (n k at : ℕ) where
   -- one row more than n
-  pub rows-open : rowsFrom erase word chosen row (suc n) k at ≡ pick (chosen k) (rowSteps erase word at (k * row) row ++ rowsFrom erase word chosen row n (k + 1) (k * row + (row - 1))) (rowsFrom erase word chosen row n (k + 1) at)
+  pub rows-open : rowsFrom chip erase word chosen (suc n) k at
+      ≡ pick (chosen k)
+      (rowSteps chip (erase k) word at (k * chip .row) ++ rowsFrom chip erase word chosen n (k + 1) (k * chip .row + (chip .row - 1)))
+      (rowsFrom chip erase word chosen n (k + 1) at)
   unfolding rowsFrom
   rows-open = refl
 
 -- none is written yet
-pub rows-all : (erase : Bool) (word : ℕ → ℕ) (chosen : ℕ → Bool) (row n : ℕ) → rowsFrom erase word chosen row n 0 0 ≡ rowsFrom erase word chosen row (n - 0) 0 0
-rows-all erase word chosen row n = ap (λ m. rowsFrom erase word chosen row m 0 0) (omega arith)
+pub rows-all : (chip : Chip) (erase : ℕ → Bool) (word : ℕ → ℕ) (chosen : ℕ → Bool) (n : ℕ) → rowsFrom chip erase word chosen n 0 0 ≡ rowsFrom chip erase word chosen (n - 0) 0 0
+rows-all chip erase word chosen n = ap (λ m. rowsFrom chip erase word chosen m 0 0) (omega arith)
 
-module _ (erase : Bool) (word : ℕ → ℕ) (chosen : ℕ → Bool) (row n k at : ℕ) where
+module _ (chip : Chip) (erase : ℕ → Bool) (word : ℕ → ℕ) (chosen : ℕ → Bool) (n k at : ℕ) where
+  one-row : k < n → rowsFrom chip erase word chosen (n - k) k at ≡ rowsFrom chip erase word chosen (suc (n - (k + 1))) k at
+  one-row h = ap (λ m. rowsFrom chip erase word chosen m k at) (one-less n k h)
+
   pub rows-yes : k < n → chosen k ≡ true
-      → rowsFrom erase word chosen row (n - k) k at ≡ rowSteps erase word at (k * row) row ++ rowsFrom erase word chosen row (n - (k + 1)) (k + 1) (k * row + (row - 1))
-  rows-yes h e = ap (λ m. rowsFrom erase word chosen row m k at) (one-less n k h) ∙ (rows-open erase word chosen row (n - (k + 1)) k at ∙ pick-true (chosen k) _ _ e)
+      → rowsFrom chip erase word chosen (n - k) k at
+      ≡ rowSteps chip (erase k) word at (k * chip .row) ++ rowsFrom chip erase word chosen (n - (k + 1)) (k + 1) (k * chip .row + (chip .row - 1))
+  rows-yes h e = one-row h ∙ (rows-open chip erase word chosen (n - (k + 1)) k at ∙ pick-true (chosen k) _ _ e)
 
-  pub rows-no : k < n → chosen k ≡ false → rowsFrom erase word chosen row (n - k) k at ≡ rowsFrom erase word chosen row (n - (k + 1)) (k + 1) at
-  rows-no h e = ap (λ m. rowsFrom erase word chosen row m k at) (one-less n k h) ∙ (rows-open erase word chosen row (n - (k + 1)) k at ∙ pick-false (chosen k) _ _ e)
+  pub rows-no : k < n → chosen k ≡ false → rowsFrom chip erase word chosen (n - k) k at ≡ rowsFrom chip erase word chosen (n - (k + 1)) (k + 1) at
+  rows-no h e = one-row h ∙ (rows-open chip erase word chosen (n - (k + 1)) k at ∙ pick-false (chosen k) _ _ e)
 
-  pub rows-none : n ≤ k → rowsFrom erase word chosen row (n - k) k at ≡ []
-  rows-none h = ap (λ m. rowsFrom erase word chosen row m k at) (none-left n k h) ∙ (unfold rowsFrom in refl)
+  pub rows-none : n ≤ k → rowsFrom chip erase word chosen (n - k) k at ≡ []
+  rows-none h = ap (λ m. rowsFrom chip erase word chosen m k at) (none-left n k h) ∙ (unfold rowsFrom in refl)
 
 -- ---- words of configuration space
 
@@ -126,41 +135,47 @@ module _ (word : ℕ → ℕ) (chosen : ℕ → Bool) (n k at : ℕ) where
   pub writes-none : n ≤ k → writesFrom word chosen (n - k) k at ≡ []
   writes-none h = ap (λ m. writesFrom word chosen m k at) (none-left n k h) ∙ (unfold writesFrom in refl)
 
-module _ (erase : Bool) (word : ℕ → ℕ) (chosen : ℕ → Bool) where
-  pub config-yes : some 9 chosen ≡ true → configSteps erase word chosen ≡ LoadConfiguration erased ∷ (erasing erase ++ writesFrom word chosen 9 0 0)
+module _ (chip : Chip) (erase : Bool) (word : ℕ → ℕ) (chosen : ℕ → Bool) where
+  pub config-yes : some (chip .readingTail) chosen ≡ true
+      → configSteps chip erase word chosen ≡ LoadConfiguration erased ∷ (erasing erase ++ writesFrom (λ k. word (chip .words + k)) chosen (chip .readingTail) 0 0)
   unfolding configSteps
-  config-yes e = pick-true (some 9 chosen) _ _ e
+  config-yes e = pick-true (some (chip .readingTail) chosen) _ _ e
 
-  pub config-no : some 9 chosen ≡ false → configSteps erase word chosen ≡ []
+  pub config-no : some (chip .readingTail) chosen ≡ false → configSteps chip erase word chosen ≡ []
   unfolding configSteps
-  config-no e = pick-false (some 9 chosen) _ _ e
+  config-no e = pick-false (some (chip .readingTail) chosen) _ _ e
 
 -- ---- the streams in parts
 
--- what both streams have after their first steps
-unfoldable pub bodySteps : Device → (image reading : List ℕ) → (erase all : Bool) → List Order
-bodySteps d image reading erase all = rowsFrom erase (wanted image reading) (rowChanges image reading (d .row)) (d .row) (d .words / d .row) 0 0 ++ configSteps all (λ k. wanted image reading (d .words + k)) (chosen all image reading (d .words))
+pub body-opens : (chip : Chip) (word old : ℕ → ℕ) (eraseRow : ℕ → Bool) (eraseIds allIds : Bool)
+    → bodyOf chip (taskOf chip word old eraseRow eraseIds allIds)
+    ≡ rowsFrom chip eraseRow word (rowDiffers chip word old) (chip .words / chip .row) 0 0 ++ configSteps chip eraseIds word (configWrites chip word old allIds)
+unfolding bodyOf taskOf
+body-opens chip word old eraseRow eraseIds allIds = refl
 
-pub update-opens : (d : Device) (image reading : List ℕ) (all : Bool) → all ≡ some 4 (λ j. differs image reading (d .words + j)) → updateSteps d image reading ≡ (ResetAddress ∷ []) ++ bodySteps d image reading true all
-unfolding updateSteps bodySteps
-update-opens d image reading all e = rw (e ∙ ids-open d image reading, row-changes d image reading, update-chosen d image reading)
+pub update-opens : (d : Device) (image reading : List ℕ) (ids : Bool) → ids ≡ idDiffers (chipOf d) (wanted d image reading) (known reading)
+    → updateSteps d image reading ≡ (ResetAddress ∷ []) ++ bodyOf (chipOf d) (taskOf (chipOf d) (wanted d image reading) (known reading) (λ k. true) ids ids)
+unfolding updateSteps updateTask
+update-opens d image reading ids e = rw e
 
-pub fresh-opens : (d : Device) (image : List ℕ) → freshSteps d image ≡ (LoadConfiguration erased ∷ []) ++ ((BulkErase ∷ []) ++ ((ResetAddress ∷ []) ++ bodySteps d image [] false false))
-unfolding freshSteps bodySteps
-fresh-opens d image = rw (row-changes d image [], fresh-chosen d image)
+pub fresh-opens : (d : Device) (image : List ℕ)
+    → freshSteps d image
+    ≡ (LoadConfiguration erased ∷ [])
+    ++ ((BulkErase ∷ []) ++ ((ResetAddress ∷ []) ++ bodyOf (chipOf d) (taskOf (chipOf d) (wanted d image []) (known []) (λ k. false) false false)))
+unfolding freshSteps freshTask
+fresh-opens d image = refl
 
-pub body-opens : (d : Device) (image reading : List ℕ) (erase all : Bool)
-    → bodySteps d image reading erase all ≡ rowsFrom erase (wanted image reading) (rowChanges image reading (d .row)) (d .row) (d .words / d .row) 0 0 ++ configSteps all (λ k. wanted image reading (d .words + k)) (chosen all image reading (d .words))
-unfolding bodySteps
-body-opens d image reading erase all = refl
-
-pub read-back-opens : (d : Device) → readBackSteps d ≡ (ResetAddress ∷ []) ++ (reads (d .words) ++ ((LoadConfiguration erased ∷ []) ++ reads 9))
-unfolding readBackSteps
+pub read-back-opens : (d : Device) → readBackSteps d ≡ (ResetAddress ∷ []) ++ (reads (d .words) ++ ((LoadConfiguration erased ∷ []) ++ reads (chipOf d .readingTail)))
+unfolding readBackSteps readSteps
 read-back-opens d = refl
 
 -- a row ends where the next one begins
 pub row-after : (k row : ℕ) → (k + 1) * row ≡ k * row + row
 row-after k row = add-mul k 1 row ∙ (let e : 1 * row ≡ row = omega arith in omega arith)
+
+-- row k of so many is not the last possible one
+pub row-before : (rows k most : ℕ) → k < rows → rows ≤ most → k < most
+row-before rows k most h m = omega arith
 
 -- row k of so many ends where the rows do, at the latest
 pub row-inside : (rows row k most : ℕ) → k < rows → rows * row ≤ most → k * row + row ≤ most

@@ -9,7 +9,7 @@ use lib.Seq.{sets, length-sets}
 use Rattle.words.specs.LawsLists.{sets-append}
 use Rattle.target.specs.declared.Order.{Order}
 use Rattle.target.specs.Stream.{codeOf, payloadOf, stepBytes, bytesOf}
-use Rattle.target.specs.LawsBoard.{length-bytes, bytes-append}
+use Rattle.target.specs.LawsStream.{length-bytes, bytes-append}
 
 -- the promise of every writer: so many bytes after the first s steps, and the number of steps then
 pub record Wrote (steps : List Order) (s : ℕ) (out : List ℕ) (r : ℕ) (out′ : List ℕ) : Type 0 where

@@ -1,120 +1,144 @@
--- What holds of the cells wherever a stream is cut: the invariant of demand 3, over what a stream speaks of.
+-- What holds of the cells wherever a stream is cut: the invariant of demand 3, over what a task speaks of, and the law of an edit that keeps it.
 use Prim.Native.Nat.{ℕ, _+_, _-_, _/_, _≤_, _<_}
+use native.Mathlib.Nat.{add-sub-cancel-left}
+use native.Mathlib.Omega.{arith}
 use mathlib.Core.Path.{_≡_, sym, ap, subst, _∙_}
 use mathlib.Core.Bool.{Bool, true, false, _&&_}
-use mathlib.Core.List.{List, [], _∷_}
-use lib.Dec.{ltb, eqb}
+use mathlib.Core.Logic.{_⊎_, ⊎-elim}
+use mathlib.Core.List.{List}
+use lib.Dec.{ltb}
 use lib.ListN.{length, getD}
-use borrow.Author.Tests.{lt-ltb, le-ltb}
 use Rattle.words.specs.Choice.{pick}
-use Rattle.words.specs.Word.{bit, Between, Contains}
-use Rattle.words.specs.LawsChoice.{pick-true, pick-false}
-use Rattle.words.specs.LawsLists.{same-entries}
-use Rattle.words.specs.LawsWord.{between-same, between-new, between-lt, between-contains}
-use Rattle.device.specs.declared.Device.{Device}
-use Rattle.target.specs.Chip.{chipOf}
-use Rattle.target.specs.Effects.{protected, cellsAfter}
-use Rattle.target.specs.Step.{orderNumber}
+use Rattle.words.specs.Word.{Between}
+use Rattle.words.specs.LawsChoice.{pick-true, pick-false, true-not-false}
+use Rattle.words.specs.LawsWord.{words-of}
+use Rattle.device.specs.Memory.{zeroBit}
+use Rattle.target.specs.Chip.{Chip}
+use Rattle.target.specs.Effects.{inProgram, locked, edit}
+use Rattle.target.specs.Step.{soundCells}
 use Rattle.target.specs.Cut.{Torn}
-use Rattle.target.specs.Crash.{Safe}
-use Rattle.target.specs.Board.{Board, boardOf}
-use Rattle.target.specs.LawsCrash.{safe-one}
-use Rattle.target.specs.declared.Order.{Order}
+use Rattle.target.specs.LawsChip.{SoundChip, Burning}
+use Rattle.words.specs.LawsTests.{by-test, by-lt, fails}
+use Rattle.target.specs.LawsTorn.{torn-hit, torn-miss, torn-fits}
+use Rattle.target.specs.LawsBlocks.{in-program, past-program}
+use Rattle.plan.specs.Steps.{Task}
 
--- ---- what a stream speaks of
+-- ---- what a task speaks of
 
--- the wanted words, the rows and the words of configuration space that are written, and what is erased by row first
-pub record Task : Type 0 where
-  pub word : ℕ → ℕ
-  pub rows : ℕ → Bool
-  pub writes : ℕ → Bool
-  pub eraseRows : Bool
-  pub eraseIds : Bool
+-- it writes cell i
+unfoldable pub spoken : Chip → Task → ℕ → Bool
+spoken chip t i = pick (inProgram chip i) (t .rows (i / chip .row)) (t .writes (i - chip .words))
 
--- the stream writes cell i
-unfoldable pub spoken : Device → Task → ℕ → Bool
-spoken d t i = pick (ltb i (d .words)) (t .rows (i / d .row)) (t .writes (i - d .words))
+-- it erases cell i by row before it writes it
+unfoldable pub wiped : Chip → Task → ℕ → Bool
+wiped chip t i = pick (inProgram chip i) (t .eraseRow (i / chip .row)) (t .eraseIds && ltb (i - chip .words) (chip .ids))
 
--- the stream erases cell i by row before it writes it
-unfoldable pub wiped : Device → Task → ℕ → Bool
-wiped d t i = pick (ltb i (d .words)) (t .eraseRows) (t .eraseIds && ltb (i - d .words) 4)
-
-module _ (d : Device) (t : Task) (i : ℕ) where
-  pub spoken-program : i < d .words → spoken d t i ≡ t .rows (i / d .row)
+module _ (chip : Chip) (t : Task) (i : ℕ) where
+  pub spoken-program : i < chip .words → spoken chip t i ≡ t .rows (i / chip .row)
   unfolding spoken
-  spoken-program h = pick-true (ltb i (d .words)) _ _ (lt-ltb i (d .words) h)
+  spoken-program h = pick-true (inProgram chip i) _ _ (in-program chip i h)
 
-  pub spoken-config : d .words ≤ i → spoken d t i ≡ t .writes (i - d .words)
+  pub spoken-past : chip .words ≤ i → spoken chip t i ≡ t .writes (i - chip .words)
   unfolding spoken
-  spoken-config h = pick-false (ltb i (d .words)) _ _ (le-ltb i (d .words) h)
+  spoken-past h = pick-false (inProgram chip i) _ _ (past-program chip i h)
 
-  pub wiped-program : i < d .words → wiped d t i ≡ t .eraseRows
+  pub wiped-program : i < chip .words → wiped chip t i ≡ t .eraseRow (i / chip .row)
   unfolding wiped
-  wiped-program h = pick-true (ltb i (d .words)) _ _ (lt-ltb i (d .words) h)
+  wiped-program h = pick-true (inProgram chip i) _ _ (in-program chip i h)
 
-  pub wiped-config : d .words ≤ i → wiped d t i ≡ (t .eraseIds && ltb (i - d .words) 4)
+  pub wiped-past : chip .words ≤ i → wiped chip t i ≡ (t .eraseIds && ltb (i - chip .words) (chip .ids))
   unfolding wiped
-  wiped-config h = pick-false (ltb i (d .words)) _ _ (le-ltb i (d .words) h)
+  wiped-past h = pick-false (inProgram chip i) _ _ (past-program chip i h)
+
+module _ (chip : Chip) (t : Task) (k : ℕ) where
+  pub spoken-word : spoken chip t (chip .words + k) ≡ t .writes k
+  spoken-word = spoken-past chip t (chip .words + k) (omega arith) ∙ ap (t .writes) (add-sub-cancel-left (chip .words) k)
+
+  pub wiped-word : wiped chip t (chip .words + k) ≡ (t .eraseIds && ltb k (chip .ids))
+  wiped-word = wiped-past chip t (chip .words + k) (omega arith) ∙ ap (λ n. t .eraseIds && ltb n (chip .ids)) (add-sub-cancel-left (chip .words) k)
+
+-- what the laws need of a task: what it erases by row takes its word when erased; in configuration space it writes user IDs and configuration words alone;
+-- it erases the user IDs only where Row Erase covers them, and then writes all of them
+pub record SoundTask (chip : Chip) (b : Burning chip) (t : Task) : Type 0 where
+  pub able : (i : ℕ) → spoken chip t i ≡ true → wiped chip t i ≡ true → b .Takes i (t .word i)
+  pub only : (k : ℕ) → t .writes k ≡ true → (k < chip .ids) ⊎ (chip .isConfig k ≡ true)
+  pub covers : t .eraseIds ≡ true → chip .rowErasesIds ≡ true
+  pub all-ids : t .eraseIds ≡ true → (k : ℕ) → k < chip .ids → t .writes k ≡ true
+
+module _ (chip : Chip) (sound : SoundChip chip) (b : Burning chip) (t : Task) (g : SoundTask chip b t) where
+  pub writes-within : (k : ℕ) → t .writes k ≡ true → k < chip .readingTail
+  writes-within k e = ⊎-elim (λ (h : k < chip .ids). let z : chip .ids ≤ chip .readingTail = sound .ids-within in omega arith) (λ h. sound .config-within k h) (g .only k e)
+
+  pub writes-writable : (k : ℕ) → t .writes k ≡ true → chip .isWritable k ≡ true
+  writes-writable k e = ⊎-elim (λ h. sound .id-writable k h) (λ h. sound .config-writable k h) (g .only k e)
+
+  pub spoken-within : (i : ℕ) → spoken chip t i ≡ true → i < chip .words + chip .readingTail
+  spoken-within i e =
+      by-lt i (chip .words) (λ h. omega arith)
+      (λ h. let z : i - chip .words < chip .readingTail = writes-within (i - chip .words) (sym (spoken-past chip t i h) ∙ e) in omega arith)
 
 -- ---- the invariant
 
--- well-formed; what is not spoken of is the first cells'; what is written without an erase has every bit of its wanted word;
+-- cells of the right length, words all of them; what is not spoken of is the first cells'; what is written without an erase can still take its word;
 -- and if the board is protected, every program word that is spoken of is wanted already
-pub record Kept (d : Device) (t : Task) (first c : List ℕ) : Type 0 where
-  pub long : length c ≡ d .words + 11
+pub record Kept (chip : Chip) (b : Burning chip) (t : Task) (first c : List ℕ) : Type 0 where
+  pub long : length c ≡ chip .words + chip .cellsTail
   pub fits : (i : ℕ) → getD c i 0 < 0x4000
-  pub kept : (i : ℕ) → spoken d t i ≡ false → getD c i 0 ≡ getD first i 0
-  pub holds : (i : ℕ) → spoken d t i ≡ true → wiped d t i ≡ false → Contains (getD c i 0) (t .word i)
-  pub lock : protected (chipOf d) c ≡ true → (i : ℕ) → i < d .words → spoken d t i ≡ true → getD c i 0 ≡ t .word i
+  pub kept : (i : ℕ) → spoken chip t i ≡ false → getD c i 0 ≡ getD first i 0
+  pub holds : (i : ℕ) → spoken chip t i ≡ true → wiped chip t i ≡ false → b .Can i (getD c i 0) (t .word i)
+  pub lock : locked chip c ≡ true → (i : ℕ) → i < chip .words → spoken chip t i ≡ true → getD c i 0 ≡ t .word i
 
--- ---- torn cells, entry by entry
-
-module _ (c e w : List ℕ) (torn : Torn c e w) where
-  pub torn-same : (i : ℕ) → getD e i 0 ≡ getD c i 0 → getD w i 0 ≡ getD c i 0
-  torn-same i q = between-same (getD c i 0) (getD w i 0) (subst (λ n. Between (getD c i 0) n (getD w i 0)) q (torn .bits i))
-
-  pub torn-fits : (i : ℕ) → getD c i 0 < 0x4000 → getD e i 0 < 0x4000 → getD w i 0 < 0x4000
-  torn-fits i p q = between-lt 14 (getD c i 0) (getD e i 0) (getD w i 0) p q (torn .bits i)
-
-  pub torn-holds : (i x : ℕ) → Contains (getD c i 0) x → Contains (getD e i 0) x → Contains (getD w i 0) x
-  torn-holds i x p q = between-contains (getD c i 0) (getD e i 0) (getD w i 0) x p q (torn .bits i)
-
--- cells that do not change cannot be torn
-pub torn-nothing : (c e w : List ℕ) → e ≡ c → Torn c e w → w ≡ c
-torn-nothing c e w q torn = same-entries w c (torn .long) (λ i h. torn-same c e w torn i (ap (λ l. getD l i 0) q))
-
--- a whole step is torn to its own result
-pub torn-whole : (c e : List ℕ) → length e ≡ length c → Torn c e e
-torn-whole c e l = record { long = l; bits = λ i. between-new (getD c i 0) (getD e i 0) }
+-- cells of the right length, words all of them, are sound
+pub sound-cells : (chip : Chip) (c : List ℕ) → length c ≡ chip .words + chip .cellsTail → ((i : ℕ) → getD c i 0 < 0x4000) → soundCells chip c ≡ true
+unfolding soundCells
+sound-cells chip c long fits = words-of (chip .words + chip .cellsTail) c long (λ i h. fits i)
 
 -- protection goes by one cell
-pub protected-same : (d : Device) (c w : List ℕ) → getD w (d .words + 7) 0 ≡ getD c (d .words + 7) 0 → protected (chipOf d) w ≡ protected (chipOf d) c
-unfolding protected chipOf
-protected-same d c w e = ap (λ n. eqb (bit n 7) 0) e
+pub locked-same : (chip : Chip) (c w : List ℕ) → getD w (chip .words + chip .cpWord) 0 ≡ getD c (chip .words + chip .cpWord) 0 → locked chip w ≡ locked chip c
+unfolding locked zeroBit
+locked-same chip c w e = rw e
 
--- ---- a step that keeps the invariant under any tear
+-- ---- an edit that hits only what is spoken of, and makes the wanted word wherever nothing is erased, keeps it under any tear
 
-module _ (d : Device) (t : Task) (first c e : List ℕ) (k : Kept d t first c)
-    (silent : (i : ℕ) → spoken d t i ≡ false → getD e i 0 ≡ getD c i 0)
-    (small : (i : ℕ) → getD e i 0 < 0x4000)
-    (over : (i : ℕ) → spoken d t i ≡ true → wiped d t i ≡ false → Contains (getD e i 0) (t .word i)) where
-  pub kept-torn : (w : List ℕ) → Torn c e w → (protected (chipOf d) w ≡ true → (i : ℕ) → i < d .words → spoken d t i ≡ true → getD w i 0 ≡ t .word i) → Kept d t first w
-  kept-torn w torn locked =
-      record {
-        long = torn .long ∙ k .long;
-        fits = λ i. torn-fits c e w torn i (k .fits i) (small i);
-        kept = λ i s. torn-same c e w torn i (silent i s) ∙ k .kept i s;
-        holds = λ i s f. torn-holds c e w torn i (t .word i) (k .holds i s f) (over i s f);
-        lock = locked;
-      }
+module _ (chip : Chip) (sound : SoundChip chip) (b : Burning chip) (t : Task) (g : SoundTask chip b t) (first : List ℕ)
+    (hit : ℕ → Bool) (new : ℕ → ℕ) (c : List ℕ) (k : Kept chip b t first c)
+    (small : (i : ℕ) → new i < 0x4000)
+    (talks : (i : ℕ) → hit i ≡ true → spoken chip t i ≡ true)
+    (makes : (i : ℕ) → hit i ≡ true → wiped chip t i ≡ false → new i ≡ t .word i) where
+  pub hit-inside : (i : ℕ) → hit i ≡ true → i < length c
+  hit-inside i e =
+      let x : i < chip .words + chip .readingTail = spoken-within chip sound b t g i (talks i e) in
+      let y : length c ≡ chip .words + chip .cellsTail = k .long in
+      let z : chip .readingTail ≤ chip .cellsTail = sound .within in
+      omega arith
 
--- an order that leaves the cells
-pub safe-quiet : (d : Device) (t : Task) (first : List ℕ) (A B : Board → Type 0) (o : Order)
-    → ((a : ℕ) (latches cells : List ℕ) → cellsAfter (chipOf d) o a latches cells ≡ cells)
-    → ((a room : ℕ) → orderNumber (chipOf d) o a room ≡ 0)
-    → ((x : Board) → A x → Kept d t first (x .cells))
-    → ((x : Board) → A x → B (boardOf (chipOf d) .step o x))
-    → Safe (boardOf (chipOf d)) (Kept d t first) A (o ∷ []) B
-safe-quiet d t first A B o leaves takes keeps ends =
-    safe-one (boardOf (chipOf d)) (Kept d t first) A B o (λ x a room. takes (x .registers .counter .0) room) ends
-    (λ x a c torn. subst (Kept d t first) (sym (torn-nothing (x .cells) _ c (leaves (x .registers .counter .0) (x .registers .latches) (x .cells)) torn)) (keeps x a))
+  module _ (w : List ℕ) (torn : Torn c (edit hit new c) w) where
+    pub kept-edit : (locked chip w ≡ true → (i : ℕ) → i < chip .words → spoken chip t i ≡ true → getD w i 0 ≡ t .word i) → Kept chip b t first w
+    kept-edit lock =
+        record {
+          long = torn .long ∙ k .long;
+          fits = torn-fits hit new c w torn small (k .fits);
+          kept = λ i e. torn-miss hit new c w torn i (fails (hit i) (λ x. true-not-false (talks i x) e)) ∙ k .kept i e;
+          holds = λ i e z.
+              by-test (hit i)
+              (λ x. b .can-torn i (getD c i 0) (t .word i) (getD w i 0) (k .holds i e z)
+              (subst (λ n. Between (getD c i 0) n (getD w i 0)) (makes i x z) (torn-hit hit new c w torn i (hit-inside i x) x)))
+              (λ x. rw (torn-miss hit new c w torn i x) (k .holds i e z));
+          lock = lock;
+        }
+
+    -- program words of a board that is not protected
+    module _ (low : (i : ℕ) → hit i ≡ true → (locked chip c ≡ false) × (i < chip .words)) where
+      pub same-lock : locked chip w ≡ locked chip c
+      same-lock =
+          locked-same chip c w (torn-miss hit new c w torn (chip .words + chip .cpWord)
+          (fails (hit (chip .words + chip .cpWord)) (λ e. let z : chip .words + chip .cpWord < chip .words = low (chip .words + chip .cpWord) e .1 in absurd (omega arith))))
+
+      pub kept-program : Kept chip b t first w
+      kept-program =
+          kept-edit (λ e i h z. torn-miss hit new c w torn i (fails (hit i) (λ x. true-not-false (sym same-lock ∙ e) (low i x .0))) ∙ k .lock (sym same-lock ∙ e) i h z)
+
+    -- words past the program words, when these are as wanted
+    pub kept-past : ((i : ℕ) → hit i ≡ true → chip .words ≤ i) → ((i : ℕ) → i < chip .words → spoken chip t i ≡ true → getD c i 0 ≡ t .word i) → Kept chip b t first w
+    kept-past high done =
+        kept-edit (λ e i h z. torn-miss hit new c w torn i (fails (hit i) (λ x. let y : chip .words ≤ i = high i x in absurd (omega arith))) ∙ done i h z)

@@ -1,32 +1,31 @@
 -- Laws of 'the test holds somewhere'.
-use Prim.Native.Nat.{ℕ, zero, suc, _<_}
+use Prim.Native.Nat.{ℕ, zero, suc, _+_, _<_}
 use native.Mathlib.Nat.{not-suc-le-zero, le-of-suc-le-suc, eq-or-lt-of-le}
+use native.Mathlib.Numerals.{add-one}
 use mathlib.Core.Path.{_≡_, refl, ap, _∙_}
 use mathlib.Core.Logic.{⊎-elim}
-use mathlib.Core.Bool.{Bool, true, false, _||_}
-use Rattle.words.specs.LawsChoice.{true-not-false}
+use mathlib.Core.Bool.{Bool, true, false}
+use Rattle.words.specs.LawsTests.{or-left, or-right, or-none}
 use Rattle.plan.specs.Wanted.{some}
 
-or-left : (a b : Bool) → (a || b) ≡ false → a ≡ false
-or-left true b e = e
-or-left false b e = refl
+pub some-zero : (f : ℕ → Bool) → some 0 f ≡ false
+unfolding some
+some-zero f = refl
 
-or-right : (a b : Bool) → (a || b) ≡ false → b ≡ false
-or-right true b e = absurd (true-not-false refl e)
-or-right false b e = e
+pub some-more : (n : ℕ) (f : ℕ → Bool) → some n f ≡ false → f n ≡ false → some (n + 1) f ≡ false
+unfolding some
+some-more n f p q = rw (add-one, p, q)
 
-or-true : (a : Bool) → (a || true) ≡ true
-or-true true = refl
-or-true false = refl
-
+-- it holds nowhere
 pub some-none : (n : ℕ) (f : ℕ → Bool) → some n f ≡ false → (k : ℕ) → k < n → f k ≡ false
 unfolding some
 some-none zero f e k h = absurd (not-suc-le-zero h)
 some-none (suc n) f e k h =
-    ⊎-elim (λ q. ap f q ∙ or-right (some n f) (f n) e) (λ p. some-none n f (or-left (some n f) (f n) e) k p) (eq-or-lt-of-le (le-of-suc-le-suc h))
+    ⊎-elim (λ q. ap f q ∙ or-none (some n f) (f n) e .1) (λ p. some-none n f (or-none (some n f) (f n) e .0) k p) (eq-or-lt-of-le (le-of-suc-le-suc h))
 
+-- one that holds is enough
 pub some-here : (n : ℕ) (f : ℕ → Bool) (k : ℕ) → k < n → f k ≡ true → some n f ≡ true
 unfolding some
 some-here zero f k h e = absurd (not-suc-le-zero h)
 some-here (suc n) f k h e =
-    ⊎-elim (λ q. rw (← q, e) (or-true (some k f))) (λ p. rw (some-here n f k p e)) (eq-or-lt-of-le (le-of-suc-le-suc h))
+    ⊎-elim (λ q. or-right (some n f) (f n) (rw (← q) e)) (λ p. or-left (some n f) (f n) (some-here n f k p e)) (eq-or-lt-of-le (le-of-suc-le-suc h))

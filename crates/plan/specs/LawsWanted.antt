@@ -1,95 +1,117 @@
--- Laws of the wanted words.
-use Prim.Native.Nat.{ℕ, zero, suc, _+_, _*_, _/_, _%_, _<_}
-use native.Mathlib.Nat.{div-add-mod', mod-lt}
+-- Laws of known and wanted words, and of where they differ on any chip.
+use Prim.Native.Nat.{ℕ, zero, suc, _+_, _*_, _/_, _%_, _≤_, _<_}
+use native.Mathlib.Nat.{div-add-mod', mod-lt, not-suc-le-zero, le-of-suc-le-suc}
 use native.Mathlib.Omega.{arith}
-use native.Mathlib.Decide.{decLt, ℕ-discrete}
-use mathlib.Core.Path.{_≡_, refl, sym, ap, subst, _∙_}
-use mathlib.Core.Bool.{Bool, true, false, not}
+use mathlib.Core.Path.{_≡_, refl, sym, ap, _∙_}
+use mathlib.Core.Bool.{Bool, true, false, _&&_, _||_}
+use mathlib.Core.Logic.{_⊎_, inl, inr, ⊎-elim}
 use mathlib.Core.List.{List, [], _∷_}
-use lib.Dec.{eqb}
+use lib.Dec.{ltb, eqb}
 use lib.ListN.{length, getD, List·getD-eq-default}
-use borrow.Author.Tests.{eqb-true, eq-eqb, ne-eqb}
+use borrow.Author.Tests.{eqb-true, eq-eqb, ne-eqb, lt-ltb, ltb-true}
 use Rattle.words.specs.Word.{erased, notGiven}
-use Rattle.words.specs.LawsChoice.{pick-true, pick-false, true-not-false}
-use Rattle.words.specs.LawsWord.{words-long, words-each}
+use Rattle.words.specs.LawsChoice.{pick-true, pick-false, both, first-holds, true-not-false}
 use Rattle.device.specs.declared.Device.{Device}
-use Rattle.device.specs.Memory.{imageOk, readingOk}
+use Rattle.device.specs.Memory.{readingTail, imageOk}
 use Rattle.device.specs.LawsMemory.{image-long, image-each, entry-word}
-use Rattle.plan.specs.Wanted.{known, wanted, differs, some, rowDiffers, idDiffers}
+use Rattle.target.specs.Chip.{Chip}
+use Rattle.words.specs.LawsTests.{by-lt, by-eq, fails, not-fails, or-cases, or-left, or-right}
+use Rattle.plan.specs.Wanted.{known, wanted, differs, rowDiffers, idDiffers, configWrites}
 use Rattle.plan.specs.LawsSome.{some-none}
 
 -- ---- a list read past its end
 
 -- within a list the default has no say
 pub same-default : (l : List ℕ) (i a b : ℕ) → i < length l → getD l i a ≡ getD l i b
-same-default [] i a b h = absurd (native.Mathlib.Nat.not-suc-le-zero h)
+same-default [] i a b h = absurd (not-suc-le-zero h)
 same-default (x ∷ l) zero a b h = refl
-same-default (x ∷ l) (suc i) a b h = same-default l i a b (native.Mathlib.Nat.le-of-suc-le-suc h)
+same-default (x ∷ l) (suc i) a b h = same-default l i a b (le-of-suc-le-suc h)
+
+module _ (reading : List ℕ) (i : ℕ) where
+  pub known-inside : i < length reading → known reading i ≡ getD reading i 0
+  unfolding known
+  known-inside h = same-default reading i erased 0 h
+
+  pub known-past : length reading ≤ i → known reading i ≡ erased
+  unfolding known
+  known-past h = List·getD-eq-default reading erased h
 
 -- ---- the two kinds of wanted word
 
-module _ (image reading : List ℕ) (i : ℕ) where
-  pub wanted-silent : getD image i notGiven ≡ notGiven → wanted image reading i ≡ known reading i
+module _ (d : Device) (image reading : List ℕ) (i : ℕ) where
+  pub wanted-silent : getD image i notGiven ≡ notGiven → wanted d image reading i ≡ known reading i
   unfolding wanted
   wanted-silent e = pick-true (eqb (getD image i notGiven) notGiven) _ _ (eq-eqb _ notGiven e)
 
-  pub wanted-given : (getD image i notGiven ≡ notGiven → ⊥) → wanted image reading i ≡ getD image i notGiven
+  pub wanted-given : (getD image i notGiven ≡ notGiven → ⊥) → wanted d image reading i ≡ getD image i notGiven
   unfolding wanted
   wanted-given e = pick-false (eqb (getD image i notGiven) notGiven) _ _ (ne-eqb _ notGiven e)
 
 -- ---- every wanted word has 14 bits
 
-module _ (reading : List ℕ) (small : (i : ℕ) → getD reading i 0 < 0x4000) where
-  pub known-fits : (i : ℕ) → known reading i < 0x4000
-  unfolding known
-  known-fits i = by (decLt i (length reading))
-    where
-      by : Dec (i < length reading) → getD reading i erased < 0x4000
-      by (yes h) = subst (λ n. n < 0x4000) (same-default reading i 0 erased h) (small i)
-      by (no h) = subst (λ n. n < 0x4000) (sym (List·getD-eq-default reading erased {n = i} (omega arith))) (omega arith)
+pub known-fits : (reading : List ℕ) → ((i : ℕ) → getD reading i 0 < 0x4000) → (i : ℕ) → known reading i < 0x4000
+known-fits reading small i =
+    by-lt i (length reading) (λ h. rw (known-inside reading i h) (small i)) (λ h. rw (known-past reading i h) (omega arith))
 
-  module _ (words : ℕ) (image : List ℕ) (sound : imageOk words image ≡ true) where
-    pub wanted-fits : (i : ℕ) → wanted image reading i < 0x4000
-    wanted-fits i = by (ℕ-discrete (getD image i notGiven) notGiven)
-      where
-        by : Dec (getD image i notGiven ≡ notGiven) → wanted image reading i < 0x4000
-        by (yes e) = subst (λ n. n < 0x4000) (sym (wanted-silent image reading i e)) (known-fits i)
-        by (no e) = subst (λ n. n < 0x4000) (sym (wanted-given image reading i e)) (given (decLt i (length image)))
-          where
-            given : Dec (i < length image) → getD image i notGiven < 0x4000
-            given (yes h) =
-                let same : getD image i notGiven ≡ getD image i 0 = same-default image i notGiven 0 h in
-                let long : length image ≡ words + 9 = image-long words image sound in
-                subst (λ n. n < 0x4000) (sym same) (entry-word words i (getD image i 0) (image-each words image sound i (omega arith)) (λ q. e (same ∙ q)) .0)
-            given (no h) = absurd (e (List·getD-eq-default image notGiven {n = i} (omega arith)))
+module _ (d : Device) (image reading : List ℕ) (sound : imageOk (d .words) image ≡ true) where
+  given-fits : (i : ℕ) → (getD image i notGiven ≡ notGiven → ⊥) → getD image i notGiven < 0x4000
+  given-fits i n =
+      by-lt i (length image)
+      (λ h.
+      let same : getD image i notGiven ≡ getD image i 0 = same-default image i notGiven 0 h in
+      let long : length image ≡ d .words + readingTail = image-long (d .words) image sound in
+      rw same (entry-word (d .words) i (getD image i 0) (image-each (d .words) image sound i (omega arith)) (λ q. n (same ∙ q)) .0))
+      (λ h. absurd (n (List·getD-eq-default image notGiven h)))
 
-pub reading-each : (words : ℕ) (reading : List ℕ) → readingOk words reading ≡ true → (i : ℕ) → getD reading i 0 < 0x4000
-unfolding readingOk
-reading-each words reading e = words-each (words + 9) reading e
+  pub wanted-fits : ((i : ℕ) → known reading i < 0x4000) → (i : ℕ) → wanted d image reading i < 0x4000
+  wanted-fits small i =
+      by-eq (getD image i notGiven) notGiven (λ e. rw (wanted-silent d image reading i e) (small i)) (λ n. rw (wanted-given d image reading i n) (given-fits i n))
 
-pub reading-long : (words : ℕ) (reading : List ℕ) → readingOk words reading ≡ true → length reading ≡ words + 9
-unfolding readingOk
-reading-long words reading e = words-long (words + 9) reading e
+-- ---- where nothing differs, the wanted word is the old one
 
--- ---- where nothing differs, the wanted word is the known one
+module _ (chip : Chip) (word old : ℕ → ℕ) where
+  pub not-differs : (i : ℕ) → differs word old i ≡ false → word i ≡ old i
+  unfolding differs
+  not-differs i e = eqb-true (word i) (old i) (not-fails (eqb (word i) (old i)) e)
 
-pub not-differs : (image reading : List ℕ) (i : ℕ) → differs image reading i ≡ false → wanted image reading i ≡ known reading i
-unfolding differs
-not-differs image reading i e = eqb-true (wanted image reading i) (known reading i) (flip (eqb (wanted image reading i) (known reading i)) e)
-  where
-    flip : (b : Bool) → not b ≡ false → b ≡ true
-    flip true q = refl
-    flip false q = absurd (true-not-false {b = true} refl q)
+  -- in a row of which no word differs
+  pub row-same : 0 < chip .row → (i : ℕ) → rowDiffers chip word old (i / chip .row) ≡ false → word i ≡ old i
+  unfolding rowDiffers
+  row-same pos i e =
+      not-differs i
+      (ap (differs word old) (sym (div-add-mod' i (chip .row)))
+      ∙ some-none (chip .row) (λ j. differs word old (i / chip .row * chip .row + j)) e (i % chip .row) (mod-lt i pos))
 
--- in a row that is not chosen no word differs
-pub row-same : (d : Device) (image reading : List ℕ) (i : ℕ) → 0 < d .row → rowDiffers d image reading (i / d .row) ≡ false → wanted image reading i ≡ known reading i
-row-same d image reading i pos e = not-differs image reading i (ap (differs image reading) (sym (div-add-mod' i (d .row))) ∙ some-none (d .row) (λ j. differs image reading (i / d .row * d .row + j)) (opened ∙ e) (i % d .row) (mod-lt i pos))
-  where
-    opened : some (d .row) (λ j. differs image reading (i / d .row * d .row + j)) ≡ rowDiffers d image reading (i / d .row)
-    opened = unfold rowDiffers in refl
+  pub id-same : idDiffers chip word old ≡ false → (k : ℕ) → k < chip .ids → word (chip .words + k) ≡ old (chip .words + k)
+  unfolding idDiffers
+  id-same e k h = not-differs (chip .words + k) (some-none (chip .ids) (λ j. differs word old (chip .words + j)) e k h)
 
-pub id-same : (d : Device) (image reading : List ℕ) (k : ℕ) → k < 4 → idDiffers d image reading ≡ false → wanted image reading (d .words + k) ≡ known reading (d .words + k)
-id-same d image reading k h e = not-differs image reading (d .words + k) (some-none 4 (λ j. differs image reading (d .words + j)) (opened ∙ e) k h)
-  where
-    opened : some 4 (λ j. differs image reading (d .words + j)) ≡ idDiffers d image reading
-    opened = unfold idDiffers in refl
+  -- ---- the words of configuration space that are written
+
+  module _ (all : Bool) (k : ℕ) where
+    abbrev asId : Bool
+    asId = ltb k (chip .ids) && (all || differs word old (chip .words + k))
+
+    abbrev asConfig : Bool
+    asConfig = chip .isConfig k && differs word old (chip .words + k)
+
+    pub writes-only : configWrites chip word old all k ≡ true → (k < chip .ids) ⊎ (chip .isConfig k ≡ true)
+    unfolding configWrites
+    writes-only e =
+        ⊎-elim (λ p. inl (ltb-true k (chip .ids) (first-holds (ltb k (chip .ids)) (all || differs word old (chip .words + k)) p)))
+        (λ p. inr (first-holds (chip .isConfig k) (differs word old (chip .words + k)) p)) (or-cases asId asConfig e)
+
+    pub writes-all : all ≡ true → k < chip .ids → configWrites chip word old all k ≡ true
+    unfolding configWrites
+    writes-all e h = rw (lt-ltb k (chip .ids) h, e)
+
+    writes-differing : differs word old (chip .words + k) ≡ true → (k < chip .ids) ⊎ (chip .isConfig k ≡ true) → configWrites chip word old all k ≡ true
+    unfolding configWrites
+    writes-differing e h =
+        ⊎-elim
+        (λ p. or-left asId asConfig (rw (lt-ltb k (chip .ids) p) (or-right all (differs word old (chip .words + k)) e)))
+        (λ p. or-right asId asConfig (both (chip .isConfig k) (differs word old (chip .words + k)) p e)) h
+
+    -- what could be written and is not has its word already
+    pub unwritten-same : (k < chip .ids) ⊎ (chip .isConfig k ≡ true) → configWrites chip word old all k ≡ false → word (chip .words + k) ≡ old (chip .words + k)
+    unwritten-same h n = not-differs (chip .words + k) (fails (differs word old (chip .words + k)) (λ e. true-not-false (writes-differing e h) n))

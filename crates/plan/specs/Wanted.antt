@@ -2,24 +2,26 @@
 -- A fresh programming has no reading: its list is empty, and past its end a reading is 3FFFh.
 use Prim.Native.Nat.{ℕ, zero, suc, _+_, _*_}
 use mathlib.Core.Bool.{Bool, false, _&&_, _||_, not}
-use mathlib.Core.List.{List, []}
+use mathlib.Core.List.{List}
 use lib.Dec.{ltb, eqb}
 use lib.ListN.{getD}
 use Rattle.words.specs.Choice.{pick}
 use Rattle.words.specs.Word.{erased, notGiven}
-use Rattle.words.specs.Lists.{inRange}
 use Rattle.device.specs.declared.Device.{Device}
+use Rattle.target.specs.Chip.{Chip}
 
 -- the reading's word (update), or 3FFFh (fresh)
 unfoldable pub known : (reading : List ℕ) → ℕ → ℕ
 known reading i = getD reading i erased
 
 -- the image's word where given; elsewhere the known one
-unfoldable pub wanted : (image reading : List ℕ) → ℕ → ℕ
-wanted image reading i = pick (eqb (getD image i notGiven) notGiven) (known reading i) (getD image i notGiven)
+unfoldable pub wanted : Device → (image reading : List ℕ) → ℕ → ℕ
+wanted d image reading i = pick (eqb (getD image i notGiven) notGiven) (known reading i) (getD image i notGiven)
 
-unfoldable pub differs : (image reading : List ℕ) → ℕ → Bool
-differs image reading i = not (eqb (wanted image reading i) (known reading i))
+-- ---- where wanted words are other than known ones, on any chip
+
+unfoldable pub differs : (word old : ℕ → ℕ) → ℕ → Bool
+differs word old i = not (eqb (word i) (old i))
 
 -- the test holds at one of 0 to n-1
 unfoldable pub some : ℕ → (ℕ → Bool) → Bool
@@ -27,17 +29,15 @@ some zero f = false
 some (suc n) f = some n f || f n
 
 -- some word of program row k differs
-unfoldable pub rowDiffers : Device → (image reading : List ℕ) → ℕ → Bool
-rowDiffers d image reading k = some (d .row) (λ j. differs image reading (k * d .row + j))
+unfoldable pub rowDiffers : Chip → (word old : ℕ → ℕ) → ℕ → Bool
+rowDiffers chip word old k = some (chip .row) (λ j. differs word old (k * chip .row + j))
 
 -- some user ID differs
-unfoldable pub idDiffers : Device → (image reading : List ℕ) → Bool
-idDiffers d image reading = some 4 (λ j. differs image reading (d .words + j))
+unfoldable pub idDiffers : Chip → (word old : ℕ → ℕ) → Bool
+idDiffers chip word old = some (chip .ids) (λ j. differs word old (chip .words + j))
 
--- the words of configuration space that an update writes: all four user IDs if one differs, and each configuration word that differs
-unfoldable pub updateWrites : Device → (image reading : List ℕ) → ℕ → Bool
-updateWrites d image reading k = (ltb k 4 && idDiffers d image reading) || (inRange 7 2 k && differs image reading (d .words + k))
-
--- those that a fresh programming writes: each user ID and configuration word that is other than 3FFFh
-unfoldable pub freshWrites : Device → (image : List ℕ) → ℕ → Bool
-freshWrites d image k = (ltb k 4 || inRange 7 2 k) && differs image [] (d .words + k)
+-- the words of configuration space that are written: user IDs, all of them or those that differ, and configuration words that differ
+unfoldable pub configWrites : Chip → (word old : ℕ → ℕ) → (allIds : Bool) → ℕ → Bool
+configWrites chip word old allIds k =
+    (ltb k (chip .ids) && (allIds || differs word old (chip .words + k)))
+    || (chip .isConfig k && differs word old (chip .words + k))

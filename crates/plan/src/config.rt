@@ -4,45 +4,47 @@ use crate::orders::put_order;
 use crate::orders::put_walk;
 use crate::source::wanted_word;
 use crate::source::word_differs;
+use device::Device;
 use target::Order;
 use words::ERASED;
 ghost use mathlib.Core.Path.{_≡_};
 ghost use Prim.Native.Nat.{_+_, _≤_, _<_};
 ghost use lib.ListN.{length};
-ghost use Rattle.device.specs.Record.{mostWords};
-ghost use Rattle.plan.specs.Wanted.{wanted, some};
+ghost use Rattle.device.specs.Memory.{readingTail};
+ghost use Rattle.target.specs.Chip.{chipOf};
+ghost use Rattle.plan.specs.Wanted.{known, wanted, some, configWrites};
 ghost use Rattle.plan.specs.Steps.{wordSteps, writesFrom, configSteps};
-ghost use Rattle.plan.specs.LawsPlanWanted.{Source, chosen};
-ghost use Rattle.plan.specs.LawsPlanWrote.{Wrote, Room, ample};
+ghost use Rattle.plan.specs.LawsPlanWanted.{Source};
+ghost use Rattle.plan.specs.LawsPlanWrote.{Wrote, Room};
 
-// Whether word k is written; `all` asks for every user ID.
-pub(crate) fn is_chosen(image: &[u16], reading: &[u16], words: usize, k: usize, all: bool) -> bool
-    requires { ⌜ (words + k ≤ ample) × (words + 9 ≤ length (now image)) ⌝ }
-    ensures { λ r. ⌜ r ≡ chosen all (now (image .entry)) (now (reading .entry)) words k ⌝ }
+// Whether word k is written; `all_ids` asks for every user ID.
+pub(crate) fn is_written(d: Device, image: &[u16], reading: &[u16], k: usize, all_ids: bool) -> bool
+    requires { ⌜ d .words + readingTail ≤ length (now image) ⌝ }
+    ensures { λ r. ⌜ r ≡ configWrites (chipOf d) (wanted d (now (image .entry)) (now (reading .entry))) (known (now (reading .entry))) «all_ids» k ⌝ }
 {
     if k < 4 {
-        if all {
+        if all_ids {
             return true;
         }
-        return word_differs(image, reading, words + k);
+        return word_differs(d, image, reading, (d.words as usize) + k);
     }
     if k < 7 {
         return false;
     }
     if k < 9 {
-        return word_differs(image, reading, words + k);
+        return word_differs(d, image, reading, (d.words as usize) + k);
     }
     false
 }
 
 // Whether any word of configuration space is written.
-pub(crate) fn some_chosen(image: &[u16], reading: &[u16], words: usize, all: bool) -> bool
-    requires { ⌜ (words ≤ mostWords) × (words + 9 ≤ length (now image)) ⌝ }
-    ensures { λ r. ⌜ r ≡ some 9 (chosen all (now (image .entry)) (now (reading .entry)) words) ⌝ }
+pub(crate) fn some_written(d: Device, image: &[u16], reading: &[u16], all_ids: bool) -> bool
+    requires { ⌜ d .words + readingTail ≤ length (now image) ⌝ }
+    ensures { λ r. ⌜ r ≡ some 9 (configWrites (chipOf d) (wanted d (now (image .entry)) (now (reading .entry))) (known (now (reading .entry))) «all_ids») ⌝ }
 {
     let mut k: usize = 0;
     while k < 9 {
-        if is_chosen(image, reading, words, k, all) {
+        if is_written(d, image, reading, k, all_ids) {
             return true;
         }
         k += 1;
@@ -61,19 +63,19 @@ fn put_word(out: &mut [u8], steps: usize, word: u16, at: usize, k: usize) -> usi
     put_order(out, loaded, Order::Begin)
 }
 
-// The chosen words, ascending; the counter is carried along.
+// The words that are written, ascending; the counter is carried along.
 fn put_writes(
     out: &mut [u8],
     steps: usize,
+    d: Device,
     image: &[u16],
     reading: &[u16],
-    words: usize,
-    all: bool,
+    all_ids: bool,
 ) -> usize
-    requires { ⌜ Source (now image) (now reading) ⌝ }
-    requires { ⌜ (words ≤ mostWords) × (words + 9 ≤ length (now image)) ⌝ }
-    requires { ⌜ Room (writesFrom (λ k. wanted (now image) (now reading) (words + k)) (chosen all (now image) (now reading) words) 9 0 0) steps (now out) ⌝ }
-    ensures { λ r. ⌜ Wrote (writesFrom (λ k. wanted (now (image .entry)) (now (reading .entry)) (words + k)) (chosen all (now (image .entry)) (now (reading .entry)) words) 9 0 0) steps (now (out .entry)) r (now (out .exit)) ⌝ }
+    requires { ⌜ Source d (now image) (now reading) ⌝ }
+    requires { ⌜ d .words + readingTail ≤ length (now image) ⌝ }
+    requires { ⌜ Room (writesFrom (λ k. wanted d (now image) (now reading) (d .words + k)) (configWrites (chipOf d) (wanted d (now image) (now reading)) (known (now reading)) «all_ids») 9 0 0) steps (now out) ⌝ }
+    ensures { λ r. ⌜ Wrote (writesFrom (λ k. wanted d (now (image .entry)) (now (reading .entry)) (d .words + k)) (configWrites (chipOf d) (wanted d (now (image .entry)) (now (reading .entry))) (known (now (reading .entry))) «all_ids») 9 0 0) steps (now (out .entry)) r (now (out .exit)) ⌝ }
 {
     let mut done = steps;
     let mut at: usize = 0;
@@ -81,38 +83,34 @@ fn put_writes(
     while k < 9 {
         let here = k;
         k += 1;
-        if is_chosen(image, reading, words, here, all) {
-            done = put_word(
-                out,
-                done,
-                wanted_word(image, reading, words + here),
-                at,
-                here,
-            );
+        if is_written(d, image, reading, here, all_ids) {
+            let word = wanted_word(d, image, reading, (d.words as usize) + here);
+            done = put_word(out, done, word, at, here);
             at = here;
         }
     }
     done
 }
 
-// If any word is chosen: Load Configuration, erase if all user IDs are written, and each word.
+// If any word is written: Load Configuration, Row Erase of the user IDs if asked for, and each word.
 pub(crate) fn put_config(
     out: &mut [u8],
     steps: usize,
+    d: Device,
     image: &[u16],
     reading: &[u16],
-    words: usize,
-    all: bool,
+    erase_ids: bool,
+    all_ids: bool,
 ) -> usize
-    requires { ⌜ Source (now image) (now reading) ⌝ }
-    requires { ⌜ (words ≤ mostWords) × (words + 9 ≤ length (now image)) ⌝ }
-    requires { ⌜ Room (configSteps all (λ k. wanted (now image) (now reading) (words + k)) (chosen all (now image) (now reading) words)) steps (now out) ⌝ }
-    ensures { λ r. ⌜ Wrote (configSteps all (λ k. wanted (now (image .entry)) (now (reading .entry)) (words + k)) (chosen all (now (image .entry)) (now (reading .entry)) words)) steps (now (out .entry)) r (now (out .exit)) ⌝ }
+    requires { ⌜ Source d (now image) (now reading) ⌝ }
+    requires { ⌜ d .words + readingTail ≤ length (now image) ⌝ }
+    requires { ⌜ Room (configSteps (chipOf d) «erase_ids» (wanted d (now image) (now reading)) (configWrites (chipOf d) (wanted d (now image) (now reading)) (known (now reading)) «all_ids»)) steps (now out) ⌝ }
+    ensures { λ r. ⌜ Wrote (configSteps (chipOf d) «erase_ids» (wanted d (now (image .entry)) (now (reading .entry))) (configWrites (chipOf d) (wanted d (now (image .entry)) (now (reading .entry))) (known (now (reading .entry))) «all_ids»)) steps (now (out .entry)) r (now (out .exit)) ⌝ }
 {
-    if some_chosen(image, reading, words, all) {} else {
+    if some_written(d, image, reading, all_ids) {} else {
         return steps;
     }
     let there = put_order(out, steps, Order::LoadConfiguration(ERASED));
-    let erased = put_erase(out, there, all);
-    put_writes(out, erased, image, reading, words, all)
+    let erased = put_erase(out, there, erase_ids);
+    put_writes(out, erased, d, image, reading, all_ids)
 }

@@ -5,7 +5,7 @@ ghost use mathlib.Core.Path.{_≡_};
 ghost use mathlib.Core.List.{[], _∷_};
 ghost use Prim.Native.Nat.{_<_};
 ghost use Rattle.target.specs.Stream.{codeOf, payloadOf};
-ghost use Rattle.target.specs.LawsBoard.{FitsOrder};
+ghost use Rattle.target.specs.LawsStream.{FitsOrder};
 ghost use Rattle.plan.specs.Steps.{walk, erasing, reads};
 ghost use Rattle.plan.specs.LawsPlanWrote.{Wrote, Room};
 

@@ -9,19 +9,21 @@ use crate::orders::put_reads;
 use crate::refusal::fresh_refusal;
 use crate::refusal::update_refusal;
 use crate::rows::put_rows;
-use crate::source::some_differ;
+use crate::source::id_differs;
 use device::Device;
 use target::Order;
 use words::ERASED;
 ghost use mathlib.Core.List.{[]};
 ghost use Prim.Native.Nat.{_+_, _≤_};
 ghost use lib.ListN.{length};
+ghost use Rattle.device.specs.Memory.{readingTail};
 ghost use Rattle.device.specs.LawsRecord.{Rules};
-ghost use Rattle.plan.specs.Steps.{updateSteps, freshSteps, readBackSteps};
+ghost use Rattle.target.specs.Chip.{chipOf};
+ghost use Rattle.plan.specs.Wanted.{known, wanted};
+ghost use Rattle.plan.specs.Steps.{taskOf, bodyOf, updateSteps, freshSteps, readBackSteps};
 ghost use Rattle.plan.specs.Answers.{updateNumber, freshNumber, readBackNumber, Plans};
 ghost use Rattle.plan.specs.LawsPlanWanted.{Source};
 ghost use Rattle.plan.specs.LawsPlanWrote.{Wrote, Room};
-ghost use Rattle.plan.specs.LawsPlanSteps.{bodySteps};
 
 // The stream that makes a board that holds the reading hold what is wanted: 13, 20 to 24 or 26, or its steps.
 pub fn update(d: Device, image: &[u16], reading: &[u16], out: &mut [u8]) -> Planned
@@ -85,28 +87,28 @@ pub fn read_back(d: Device, out: &mut [u8]) -> Planned
 // The update's steps, from the first on.
 fn put_update(out: &mut [u8], d: Device, image: &[u16], reading: &[u16]) -> usize
     requires { ⌜ Rules d ⌝ }
-    requires { ⌜ d .words + 9 ≤ length (now image) ⌝ }
-    requires { ⌜ Source (now image) (now reading) ⌝ }
+    requires { ⌜ d .words + readingTail ≤ length (now image) ⌝ }
+    requires { ⌜ Source d (now image) (now reading) ⌝ }
     requires { ⌜ Room (updateSteps d (now image) (now reading)) 0 (now out) ⌝ }
     ensures { λ r. ⌜ Wrote (updateSteps d (now (image .entry)) (now (reading .entry))) 0 (now (out .entry)) r (now (out .exit)) ⌝ }
 {
-    let ids = some_differ(image, reading, d.words as usize, 4);
+    let ids = id_differs(d, image, reading);
     let reset = put_order(out, 0, Order::ResetAddress);
-    put_body(out, reset, d, image, reading, true, ids)
+    put_body(out, reset, d, image, reading, true, ids, ids)
 }
 
 // The fresh stream's steps: the empty part of the image stands for the reading that there is not.
 fn put_fresh(out: &mut [u8], d: Device, image: &[u16]) -> usize
     requires { ⌜ Rules d ⌝ }
-    requires { ⌜ d .words + 9 ≤ length (now image) ⌝ }
-    requires { ⌜ Source (now image) [] ⌝ }
+    requires { ⌜ d .words + readingTail ≤ length (now image) ⌝ }
+    requires { ⌜ Source d (now image) [] ⌝ }
     requires { ⌜ Room (freshSteps d (now image)) 0 (now out) ⌝ }
     ensures { λ r. ⌜ Wrote (freshSteps d (now (image .entry))) 0 (now (out .entry)) r (now (out .exit)) ⌝ }
 {
     let config = put_order(out, 0, Order::LoadConfiguration(ERASED));
     let blank = put_order(out, config, Order::BulkErase);
     let reset = put_order(out, blank, Order::ResetAddress);
-    put_body(out, reset, d, image, &image[..0], false, false)
+    put_body(out, reset, d, image, &image[..0], false, false, false)
 }
 
 // What both streams do after their first steps: rows, and then configuration space.
@@ -117,18 +119,17 @@ fn put_body(
     image: &[u16],
     reading: &[u16],
     erase: bool,
-    all: bool,
+    erase_ids: bool,
+    all_ids: bool,
 ) -> usize
     requires { ⌜ Rules d ⌝ }
-    requires { ⌜ d .words + 9 ≤ length (now image) ⌝ }
-    requires { ⌜ Source (now image) (now reading) ⌝ }
-    requires { ⌜ Room (bodySteps d (now image) (now reading) erase all) steps (now out) ⌝ }
-    ensures { λ r. ⌜ Wrote (bodySteps d (now (image .entry)) (now (reading .entry)) erase all) steps (now (out .entry)) r (now (out .exit)) ⌝ }
+    requires { ⌜ d .words + readingTail ≤ length (now image) ⌝ }
+    requires { ⌜ Source d (now image) (now reading) ⌝ }
+    requires { ⌜ Room (bodyOf (chipOf d) (taskOf (chipOf d) (wanted d (now image) (now reading)) (known (now reading)) (λ k. erase) «erase_ids» «all_ids»)) steps (now out) ⌝ }
+    ensures { λ r. ⌜ Wrote (bodyOf (chipOf d) (taskOf (chipOf d) (wanted d (now (image .entry)) (now (reading .entry))) (known (now (reading .entry))) (λ k. erase) «erase_ids» «all_ids»)) steps (now (out .entry)) r (now (out .exit)) ⌝ }
 {
-    let words = d.words as usize;
-    let row = d.row as usize;
-    let program = put_rows(out, steps, image, reading, row, words / row, erase);
-    put_config(out, program, image, reading, words, all)
+    let program = put_rows(out, steps, d, image, reading, erase);
+    put_config(out, program, d, image, reading, erase_ids, all_ids)
 }
 
 // The read-back's steps, program words before configuration space.

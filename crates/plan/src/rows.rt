@@ -1,75 +1,90 @@
-// Program rows put into a stream. They know no device: a row is a first word and a count, so that rows of another family go the same way.
+// Program rows put into a stream: each in which some word differs, as one latch set.
 use crate::orders::put_erase;
 use crate::orders::put_order;
 use crate::orders::put_walk;
 use crate::source::some_differ;
 use crate::source::wanted_word;
+use device::Device;
 use target::Order;
 ghost use mathlib.Core.List.{[], _∷_};
-ghost use Prim.Native.Nat.{_+_, _*_, _≤_, _<_};
+ghost use Prim.Native.Nat.{_+_, _/_, _≤_, _<_};
 ghost use lib.ListN.{length};
-ghost use Rattle.device.specs.Record.{mostWords};
+ghost use Rattle.device.specs.Memory.{readingTail};
+ghost use Rattle.device.specs.LawsRecord.{Rules};
+ghost use Rattle.target.specs.Chip.{chipOf};
 ghost use Rattle.target.specs.declared.Order.the-variants.{LoadData};
-ghost use Rattle.plan.specs.Wanted.{wanted};
+ghost use Rattle.plan.specs.Wanted.{known, wanted, rowDiffers};
 ghost use Rattle.plan.specs.Steps.{loads, rowSteps, rowsFrom};
-ghost use Rattle.plan.specs.LawsPlanWanted.{Source, rowChanges};
+ghost use Rattle.plan.specs.LawsPlanWanted.{Source};
 ghost use Rattle.plan.specs.LawsPlanWrote.{Wrote, Room, ample};
 
 // One wanted word loaded; that it has 14 bits is what the judged image and reading are for.
-fn put_load(out: &mut [u8], steps: usize, image: &[u16], reading: &[u16], i: usize) -> usize
-    requires { ⌜ Source (now image) (now reading) ⌝ }
+fn put_load(
+    out: &mut [u8],
+    steps: usize,
+    d: Device,
+    image: &[u16],
+    reading: &[u16],
+    i: usize,
+) -> usize
+    requires { ⌜ Source d (now image) (now reading) ⌝ }
     requires { ⌜ i < length (now image) ⌝ }
-    requires { ⌜ Room (LoadData (wanted (now image) (now reading) i) ∷ []) steps (now out) ⌝ }
-    ensures { λ r. ⌜ Wrote (LoadData (wanted (now (image .entry)) (now (reading .entry)) i) ∷ []) steps (now (out .entry)) r (now (out .exit)) ⌝ }
+    requires { ⌜ Room (LoadData (wanted d (now image) (now reading) i) ∷ []) steps (now out) ⌝ }
+    ensures { λ r. ⌜ Wrote (LoadData (wanted d (now (image .entry)) (now (reading .entry)) i) ∷ []) steps (now (out .entry)) r (now (out .exit)) ⌝ }
 {
-    put_order(out, steps, Order::LoadData(wanted_word(image, reading, i)))
+    put_order(
+        out,
+        steps,
+        Order::LoadData(wanted_word(d, image, reading, i)),
+    )
 }
 
 // The wanted words from a first one on, with an Increment between each two.
 fn put_loads(
     out: &mut [u8],
     steps: usize,
+    d: Device,
     image: &[u16],
     reading: &[u16],
     first: usize,
     count: usize,
 ) -> usize
-    requires { ⌜ Source (now image) (now reading) ⌝ }
+    requires { ⌜ Source d (now image) (now reading) ⌝ }
     requires { ⌜ (0 < count) × (first + count ≤ ample) × (first + count ≤ length (now image)) ⌝ }
-    requires { ⌜ Room (loads (wanted (now image) (now reading)) first count) steps (now out) ⌝ }
-    ensures { λ r. ⌜ Wrote (loads (wanted (now (image .entry)) (now (reading .entry))) first count) steps (now (out .entry)) r (now (out .exit)) ⌝ }
+    requires { ⌜ Room (loads (wanted d (now image) (now reading)) first count) steps (now out) ⌝ }
+    ensures { λ r. ⌜ Wrote (loads (wanted d (now (image .entry)) (now (reading .entry))) first count) steps (now (out .entry)) r (now (out .exit)) ⌝ }
 {
     let mut done = steps;
     let mut i = first;
     let mut left = count;
     while 1 < left {
-        let loaded = put_load(out, done, image, reading, i);
+        let loaded = put_load(out, done, d, image, reading, i);
         done = put_order(out, loaded, Order::Increment);
         i += 1;
         left -= 1;
     }
-    put_load(out, done, image, reading, i)
+    put_load(out, done, d, image, reading, i)
 }
 
 // One row: up to its first word, erase if asked for, load, write.
 fn put_row(
     out: &mut [u8],
     steps: usize,
+    d: Device,
     image: &[u16],
     reading: &[u16],
     at: usize,
     first: usize,
-    count: usize,
     erase: bool,
 ) -> usize
-    requires { ⌜ Source (now image) (now reading) ⌝ }
-    requires { ⌜ (0 < count) × (first + count ≤ ample) × (first + count ≤ length (now image)) ⌝ }
-    requires { ⌜ Room (rowSteps erase (wanted (now image) (now reading)) at first count) steps (now out) ⌝ }
-    ensures { λ r. ⌜ Wrote (rowSteps erase (wanted (now (image .entry)) (now (reading .entry))) at first count) steps (now (out .entry)) r (now (out .exit)) ⌝ }
+    requires { ⌜ Source d (now image) (now reading) ⌝ }
+    requires { ⌜ (0 < d .row) × (first + d .row ≤ ample) × (first + d .row ≤ length (now image)) ⌝ }
+    requires { ⌜ Room (rowSteps (chipOf d) erase (wanted d (now image) (now reading)) at first) steps (now out) ⌝ }
+    ensures { λ r. ⌜ Wrote (rowSteps (chipOf d) erase (wanted d (now (image .entry)) (now (reading .entry))) at first) steps (now (out .entry)) r (now (out .exit)) ⌝ }
 {
     let there = put_walk(out, steps, at, first);
     let erased = put_erase(out, there, erase);
-    let loaded = put_loads(out, erased, image, reading, first, count);
+    let loaded = put_loads(out, erased, d, image, reading, first, d.row as usize);
     put_order(out, loaded, Order::Begin)
 }
 
@@ -77,25 +92,27 @@ fn put_row(
 pub(crate) fn put_rows(
     out: &mut [u8],
     steps: usize,
+    d: Device,
     image: &[u16],
     reading: &[u16],
-    row: usize,
-    rows: usize,
     erase: bool,
 ) -> usize
-    requires { ⌜ Source (now image) (now reading) ⌝ }
-    requires { ⌜ (0 < row) × (rows * row ≤ mostWords) × (rows * row ≤ length (now image)) ⌝ }
-    requires { ⌜ Room (rowsFrom erase (wanted (now image) (now reading)) (rowChanges (now image) (now reading) row) row rows 0 0) steps (now out) ⌝ }
-    ensures { λ r. ⌜ Wrote (rowsFrom erase (wanted (now (image .entry)) (now (reading .entry))) (rowChanges (now (image .entry)) (now (reading .entry)) row) row rows 0 0) steps (now (out .entry)) r (now (out .exit)) ⌝ }
+    requires { ⌜ Rules d ⌝ }
+    requires { ⌜ Source d (now image) (now reading) ⌝ }
+    requires { ⌜ d .words + readingTail ≤ length (now image) ⌝ }
+    requires { ⌜ Room (rowsFrom (chipOf d) (λ k. erase) (wanted d (now image) (now reading)) (rowDiffers (chipOf d) (wanted d (now image) (now reading)) (known (now reading))) (d .words / d .row) 0 0) steps (now out) ⌝ }
+    ensures { λ r. ⌜ Wrote (rowsFrom (chipOf d) (λ k. erase) (wanted d (now (image .entry)) (now (reading .entry))) (rowDiffers (chipOf d) (wanted d (now (image .entry)) (now (reading .entry))) (known (now (reading .entry)))) (d .words / d .row) 0 0) steps (now (out .entry)) r (now (out .exit)) ⌝ }
 {
+    let row = d.row as usize;
+    let rows = (d.words as usize) / row;
     let mut done = steps;
     let mut at: usize = 0;
     let mut k: usize = 0;
     while k < rows {
         let first = k * row;
         k += 1;
-        if some_differ(image, reading, first, row) {
-            done = put_row(out, done, image, reading, at, first, row, erase);
+        if some_differ(d, image, reading, first, row) {
+            done = put_row(out, done, d, image, reading, at, first, erase);
             at = first + (row - 1);
         }
     }

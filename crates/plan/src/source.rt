@@ -1,15 +1,18 @@
 // What a board is to hold, and where that differs from what it holds. Past a reading's end stands an erased word: a fresh programming has no reading.
+use device::Device;
 use words::ERASED;
 use words::NOT_GIVEN;
 ghost use mathlib.Core.Path.{_≡_};
 ghost use Prim.Native.Nat.{_+_, _≤_, _<_};
 ghost use lib.ListN.{length, getD};
 ghost use Rattle.words.specs.Word.{notGiven};
-ghost use Rattle.plan.specs.Wanted.{known, wanted, differs, some};
+ghost use Rattle.device.specs.Memory.{readingTail};
+ghost use Rattle.target.specs.Chip.{chipOf};
+ghost use Rattle.plan.specs.Wanted.{known, wanted, differs, some, idDiffers};
 ghost use Rattle.plan.specs.LawsPlanWrote.{ample};
 
 // The reading's word; past its end an erased one.
-pub(crate) fn known_word(reading: &[u16], i: usize) -> u16
+fn known_word(reading: &[u16], i: usize) -> u16
     ensures { λ r. ⌜ r ≡ known (now (reading .entry)) i ⌝ }
 {
     if i < reading.len() {
@@ -27,9 +30,9 @@ fn given_word(image: &[u16], i: usize) -> u16
 }
 
 // The image's word where it gives one, the known word where it is silent.
-pub(crate) fn wanted_word(image: &[u16], reading: &[u16], i: usize) -> u16
+pub(crate) fn wanted_word(d: Device, image: &[u16], reading: &[u16], i: usize) -> u16
     requires { ⌜ i < length (now image) ⌝ }
-    ensures { λ r. ⌜ r ≡ wanted (now (image .entry)) (now (reading .entry)) i ⌝ }
+    ensures { λ r. ⌜ r ≡ wanted d (now (image .entry)) (now (reading .entry)) i ⌝ }
 {
     let given = given_word(image, i);
     if given == NOT_GIVEN {
@@ -39,24 +42,38 @@ pub(crate) fn wanted_word(image: &[u16], reading: &[u16], i: usize) -> u16
 }
 
 // Whether a wanted word is not the one that stands there.
-pub(crate) fn word_differs(image: &[u16], reading: &[u16], i: usize) -> bool
+pub(crate) fn word_differs(d: Device, image: &[u16], reading: &[u16], i: usize) -> bool
     requires { ⌜ i < length (now image) ⌝ }
-    ensures { λ r. ⌜ r ≡ differs (now (image .entry)) (now (reading .entry)) i ⌝ }
+    ensures { λ r. ⌜ r ≡ differs (wanted d (now (image .entry)) (now (reading .entry))) (known (now (reading .entry))) i ⌝ }
 {
-    wanted_word(image, reading, i) != known_word(reading, i)
+    wanted_word(d, image, reading, i) != known_word(reading, i)
 }
 
 // Whether one of the words from a first one on differs.
-pub(crate) fn some_differ(image: &[u16], reading: &[u16], first: usize, count: usize) -> bool
+pub(crate) fn some_differ(
+    d: Device,
+    image: &[u16],
+    reading: &[u16],
+    first: usize,
+    count: usize,
+) -> bool
     requires { ⌜ (first + count ≤ ample) × (first + count ≤ length (now image)) ⌝ }
-    ensures { λ r. ⌜ r ≡ some count (λ j. differs (now (image .entry)) (now (reading .entry)) (first + j)) ⌝ }
+    ensures { λ r. ⌜ r ≡ some count (λ j. differs (wanted d (now (image .entry)) (now (reading .entry))) (known (now (reading .entry))) (first + j)) ⌝ }
 {
     let mut j = 0;
     while j < count {
-        if word_differs(image, reading, first + j) {
+        if word_differs(d, image, reading, first + j) {
             return true;
         }
         j += 1;
     }
     false
+}
+
+// Whether a user ID differs.
+pub(crate) fn id_differs(d: Device, image: &[u16], reading: &[u16]) -> bool
+    requires { ⌜ d .words + readingTail ≤ length (now image) ⌝ }
+    ensures { λ r. ⌜ r ≡ idDiffers (chipOf d) (wanted d (now (image .entry)) (now (reading .entry))) (known (now (reading .entry))) ⌝ }
+{
+    some_differ(d, image, reading, d.words as usize, 4)
 }

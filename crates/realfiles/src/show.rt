@@ -1,5 +1,6 @@
 // A HEX file read for a PIC16F1459: its name, the answer's number and line, and a line for each word that it gives.
 use device::Device;
+use device::READING_TAIL;
 use libc::STDOUT_FILENO;
 use words::CONFIG_BASE;
 use words::NOT_GIVEN;
@@ -18,7 +19,7 @@ const PIC16F1459: Device = Device {
 pub(crate) fn file(name: &[u8]) {
     let mut text = io::large_buffer();
     let n = files::read(os::open_read(name), &mut text);
-    let mut image = [NOT_GIVEN; 8201];
+    let mut image = [NOT_GIVEN; 8192 + READING_TAIL];
     let r = hexread::read_hex(PIC16F1459, &text[..n], &mut image);
     io::write_all(STDOUT_FILENO, name);
     io::write_all(STDOUT_FILENO, b"\t");
@@ -42,7 +43,7 @@ fn all(image: &[u16]) {
 
 // The address of an entry, and its word.
 fn entry(i: usize, word: u16) {
-    match words::address::address_of(WordAddress(CONFIG_BASE), 8192, 9, i) {
+    match words::address::address_of(WordAddress(CONFIG_BASE), 8192, READING_TAIL as u8, i) {
         Place::At(a) => line(a, word),
         Place::Nowhere => {}
     }

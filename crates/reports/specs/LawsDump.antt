@@ -4,7 +4,8 @@ use native.Mathlib.Nat.{add-zero, zero-add}
 use native.Mathlib.Decide.{decLt}
 use native.Mathlib.Omega.{arith}
 use mathlib.Core.Path.{_≡_, refl, sym, ap, _∙_}
-use mathlib.Core.Bool.{true}
+use mathlib.Core.Logic.{_⊎_, inl, inr}
+use mathlib.Core.Bool.{true, false}
 use mathlib.Core.List.{List, _++_}
 use lib.ListN.{length, getD, set, take, drop, replicate, length-replicate}
 use lib.Seq.{sets, sets-eq, take-at, take-set-lt, length-sets}
@@ -12,26 +13,25 @@ use borrow.Author.Tests.{eq-eqb, le-leb}
 use Rattle.words.specs.Choice.{pick}
 use Rattle.words.specs.Word.{notGiven}
 use Rattle.words.specs.Lists.{inRange, overlay}
-use Rattle.words.specs.LawsChoice.{pick-true, pick-false}
-use Rattle.words.specs.LawsLists.{length-build, getD-build, in-range, below-range, above-range, overlay-none, overlay-more}
-use Rattle.words.specs.LawsWord.{words-each}
+use Rattle.words.specs.LawsChoice.{pick-true, pick-false, decided}
+use Rattle.words.specs.LawsLists.{length-build, getD-build, build-ext, in-range, below-range, above-range, overlay-none, overlay-more}
 use Rattle.device.specs.declared.Device.{Device}
-use Rattle.device.specs.Record.{deviceOk}
-use Rattle.device.specs.Memory.{entryOk, imageOk, readingOk}
+use Rattle.device.specs.Record.{mostWords, deviceOk}
+use Rattle.device.specs.Memory.{readingTail, ids, cpWord, programmable, entryOk, imageOk, readingOk}
 use Rattle.device.specs.LawsRecord.{rules}
-use Rattle.device.specs.LawsMemory.{entry-none, entry-low, entry-high, image-of}
+use Rattle.device.specs.LawsMemory.{programmable-low, programmable-never, programmable-config, entry-none, entry-given, image-of, reading-each}
 use Rattle.hexwrite.specs.declared.WrittenHex.{WrittenHex}
 use Rattle.hexwrite.specs.Writer.{hexText, writtenHex, writtenOut, WroteHex}
 use Rattle.hexwrite.specs.LawsWriteText.{text-length}
 use Rattle.print.specs.Print.{refusedText}
 use Rattle.print.specs.LawsLines.{either-short}
-use Rattle.board.specs.Open.{recordOf, boardNumber, readingOf}
+use Rattle.board.specs.Open.{recordOf, boardNumber, boardReading}
 use Rattle.board.specs.LawsBoard.{Board, board-sound, board-told, board-text}
 use Rattle.reports.specs.Dump.{imageOf, dumpText}
 
 -- the most bytes of a text: 14P + 156
 abbrev pub mostDump : ℕ
-mostDump = 114844
+mostDump = 14 * mostWords + 156
 
 -- three entries made 'not given'
 unfoldable hidden : (first : ℕ) → List ℕ → List ℕ
@@ -49,24 +49,30 @@ hidden-three l first = overlay-more first 2 (λ i. notGiven) l _ notGiven two re
     two : set (set l first notGiven) (first + 1) notGiven ≡ overlay first 2 (λ i. notGiven) l
     two = overlay-more first 1 (λ i. notGiven) l _ notGiven one refl
 
-image-is : (words : ℕ) (reading : List ℕ) → length reading ≡ words + 9 → hidden (words + 4) reading ≡ imageOf words reading
+-- the three words that are not programmable are those that are hidden
+hidden-entry : (words i x : ℕ) → i < words + readingTail → pick (inRange (words + ids) 3 i) notGiven x ≡ pick (programmable words i) x notGiven
+hidden-entry words i x h = by (decLt i (words + ids)) (decLt i (words + cpWord))
+  where
+    by : Dec (i < words + ids) → Dec (i < words + cpWord) → pick (inRange (words + ids) 3 i) notGiven x ≡ pick (programmable words i) x notGiven
+    by (yes p) q = pick-false _ _ _ (below-range (words + ids) 3 i p) ∙ sym (pick-true _ _ _ (programmable-low words i p))
+    by (no p) (yes q) = pick-true _ _ _ (in-range (words + ids) 3 i (omega arith) (omega arith)) ∙ sym (pick-false _ _ _ (programmable-never words i (omega arith) q))
+    by (no p) (no q) = pick-false _ _ _ (above-range (words + ids) 3 i (omega arith)) ∙ sym (pick-true _ _ _ (programmable-config words i (omega arith) h))
+
+image-is : (words : ℕ) (reading : List ℕ) → length reading ≡ words + readingTail → hidden (words + ids) reading ≡ imageOf words reading
 unfolding hidden overlay imageOf
-image-is words reading e = rw e
+image-is words reading e = rw e (build-ext (words + readingTail) _ _ (λ i h. hidden-entry words i (getD reading i 0) h))
 
 image-sound : (words : ℕ) (reading : List ℕ) → readingOk words reading ≡ true → imageOk words (imageOf words reading) ≡ true
-unfolding imageOf readingOk
-image-sound words reading ok = image-of words _ (length-build (words + 9) entry) (λ i h. ap (entryOk words i) (getD-build (words + 9) entry i h) ∙ by i h (decLt i (words + 4)) (decLt i (words + 7)))
+unfolding imageOf
+image-sound words reading ok = image-of words _ (length-build (words + readingTail) entry)
+    (λ i h. ap (entryOk words i) (getD-build (words + readingTail) entry i h) ∙ by i (decided (programmable words i)))
   where
     entry : ℕ → ℕ
-    entry i = pick (inRange (words + 4) 3 i) notGiven (getD reading i 0)
+    entry i = pick (programmable words i) (getD reading i 0) notGiven
 
-    small : (i : ℕ) → i < words + 9 → getD reading i 0 < 0x4000
-    small i h = words-each (words + 9) reading ok i
-
-    by : (i : ℕ) → i < words + 9 → Dec (i < words + 4) → Dec (i < words + 7) → entryOk words i (entry i) ≡ true
-    by i h (yes p) q = ap (entryOk words i) (pick-false _ _ _ (below-range (words + 4) 3 i p)) ∙ entry-low words i (getD reading i 0) (small i h) p
-    by i h (no p) (yes q) = entry-none words i (entry i) (pick-true _ _ _ (in-range (words + 4) 3 i (omega arith) (omega arith)))
-    by i h (no p) (no q) = ap (entryOk words i) (pick-false _ _ _ (above-range (words + 4) 3 i (omega arith))) ∙ entry-high words i (getD reading i 0) (small i h) (omega arith)
+    by : (i : ℕ) → (programmable words i ≡ true) ⊎ (programmable words i ≡ false) → entryOk words i (entry i) ≡ true
+    by i (inl t) = ap (entryOk words i) (pick-true _ _ _ t) ∙ (entry-given words i (getD reading i 0) (reading-each words reading ok i) ∙ t)
+    by i (inr f) = entry-none words i (entry i) (pick-false _ _ _ f)
 
 -- ---- the text of an image, in a buffer that has room for it
 
@@ -76,7 +82,7 @@ pub record Dumped (text : List ℕ) (r : WrittenHex) (out : List ℕ) : Type 0 w
 
 text-few : (d : Device) → deviceOk d ≡ true → (image : List ℕ) → length (hexText (d .words) image) ≤ mostDump
 text-few d sound image =
-    let most : d .words ≤ 8192 = rules d sound .most in
+    let most : d .words ≤ mostWords = rules d sound .most in
     let short : length (hexText (d .words) image) ≤ 14 * d .words + 156 = text-length (d .words) image most in
     omega arith
 
@@ -117,7 +123,7 @@ module _ (d : Device) (sound : deviceOk d ≡ true) (image : List ℕ) (ok : ima
 
 -- ---- the program
 
-pub dump-short : (table sheet : List ℕ) → length (dumpText table sheet) ≤ 114844
+pub dump-short : (table sheet : List ℕ) → length (dumpText table sheet) ≤ mostDump
 unfolding dumpText
 dump-short table sheet =
     either-short mostDump (omega arith) (boardNumber table sheet) 0 _
@@ -129,24 +135,25 @@ module _ (table sheet : List ℕ) (number : ℕ) (e : number ≡ boardNumber tab
   dump-refused n = board-told table sheet number e (λ k. refusedText k 0) _ n
 
   -- the writer's answer, and what it leaves in a buffer of the most bytes
-  module _ (z : number ≡ 0) (d : Device) (reading : List ℕ) (b : Board table sheet d reading) (hides : List ℕ) (h : hides ≡ set (set (set reading (d .words + 4) notGiven) (d .words + 4 + 1) notGiven) (d .words + 4 + 2) notGiven) where
-    front : take (d .words + 9) hides ≡ imageOf (d .words) (take (d .words + 9) reading)
+  module _ (z : number ≡ 0) (d : Device) (reading : List ℕ) (b : Board table sheet d reading) (hides : List ℕ)
+      (h : hides ≡ set (set (set reading (d .words + ids) notGiven) (d .words + ids + 1) notGiven) (d .words + ids + 2) notGiven) where
+    front : take (d .words + readingTail) hides ≡ imageOf (d .words) (take (d .words + readingTail) reading)
     front =
-        ap (take (d .words + 9)) h
-        ∙ (take-set-lt (d .words + 9) _ (d .words + 4 + 2) notGiven (omega arith)
-        ∙ (ap (λ l. set l (d .words + 4 + 2) notGiven) (take-set-lt (d .words + 9) _ (d .words + 4 + 1) notGiven (omega arith)
-        ∙ ap (λ l. set l (d .words + 4 + 1) notGiven) (take-set-lt (d .words + 9) reading (d .words + 4) notGiven (omega arith)))
-        ∙ (hidden-three (take (d .words + 9) reading) (d .words + 4) ∙ image-is (d .words) (take (d .words + 9) reading) (b .long))))
+        ap (take (d .words + readingTail)) h
+        ∙ (take-set-lt (d .words + readingTail) _ (d .words + ids + 2) notGiven (omega arith)
+        ∙ (ap (λ l. set l (d .words + ids + 2) notGiven) (take-set-lt (d .words + readingTail) _ (d .words + ids + 1) notGiven (omega arith)
+        ∙ ap (λ l. set l (d .words + ids + 1) notGiven) (take-set-lt (d .words + readingTail) reading (d .words + ids) notGiven (omega arith)))
+        ∙ (hidden-three (take (d .words + readingTail) reading) (d .words + ids) ∙ image-is (d .words) (take (d .words + readingTail) reading) (b .long))))
 
-    ok : imageOk (d .words) (take (d .words + 9) hides) ≡ true
-    ok = ap (imageOk (d .words)) front ∙ image-sound (d .words) (take (d .words + 9) reading) (b .good)
+    ok : imageOk (d .words) (take (d .words + readingTail) hides) ≡ true
+    ok = ap (imageOk (d .words)) front ∙ image-sound (d .words) (take (d .words + readingTail) reading) (b .good)
 
-    text-is : hexText (d .words) (take (d .words + 9) hides) ≡ dumpText table sheet
+    text-is : hexText (d .words) (take (d .words + readingTail) hides) ≡ dumpText table sheet
     unfolding dumpText
     text-is =
         ap (hexText (d .words)) (front ∙ ap (imageOf (d .words)) (b .front))
-        ∙ (ap (λ x. hexText (x .words) (imageOf (x .words) (readingOf table sheet))) (b .record-is)
-        ∙ board-text table sheet number e (hexText (recordOf table sheet .words) (imageOf (recordOf table sheet .words) (readingOf table sheet))) (refusedText (boardNumber table sheet) 0) z)
+        ∙ (ap (λ x. hexText (x .words) (imageOf (x .words) (boardReading table sheet))) (b .record-is)
+        ∙ board-text table sheet number e (hexText (recordOf table sheet .words) (imageOf (recordOf table sheet .words) (boardReading table sheet))) (refusedText (boardNumber table sheet) 0) z)
 
-    pub dump-written : (r : WrittenHex) (out : List ℕ) → WroteHex d (take (d .words + 9) hides) (replicate mostDump 0) r out → Dumped (dumpText table sheet) r out
-    dump-written r out p = rw text-is at (dumped d (b .sound) (take (d .words + 9) hides) ok r out p)
+    pub dump-written : (r : WrittenHex) (out : List ℕ) → WroteHex d (take (d .words + readingTail) hides) (replicate mostDump 0) r out → Dumped (dumpText table sheet) r out
+    dump-written r out p = rw text-is at (dumped d (b .sound) (take (d .words + readingTail) hides) ok r out p)

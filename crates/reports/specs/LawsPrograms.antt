@@ -12,22 +12,23 @@ use Rattle.words.specs.Choice.{pick}
 use Rattle.words.specs.LawsChoice.{pick-true, pick-false}
 use Rattle.words.specs.Address.{configBase, addressOf}
 use Rattle.device.specs.declared.Device.{Device}
-use Rattle.device.specs.Memory.{protected}
+use Rattle.device.specs.Memory.{readingTail, protected}
+use Rattle.device.specs.Record.{mostWords}
 use Rattle.sheet.specs.Sheet.{sheetOk, wordsIn, readNumber, readBuffer}
 use Rattle.sheet.specs.LawsSheet.{length-words, read-sound}
 use Rattle.judge.specs.declared.Sum.{Sum}
 use Rattle.judge.specs.declared.Verdict.{Verdict}
 use Rattle.judge.specs.Checksum.{checksumOf, summed}
 use Rattle.judge.specs.Count.{countTo, firstTo}
-use Rattle.judge.specs.Verify.{differs, bare, verdictOf, verified}
+use Rattle.judge.specs.Verify.{entryDiffers, bare, verdictOf, verified}
 use Rattle.judge.specs.LawsChecksum.{summed-0}
 use Rattle.judge.specs.LawsCount.{count-le}
 use Rattle.judge.specs.LawsVerify.{verified-judged}
 use Rattle.print.specs.Print.{refusedText, sumText, verdictText}
 use Rattle.print.specs.LawsLines.{either-short, sum-short, verdict-short}
-use Rattle.board.specs.Open.{recordOf, boardNumber, readingOf}
+use Rattle.board.specs.Open.{recordOf, boardNumber, boardReading}
 use Rattle.board.specs.LawsOpen.{sheet-bad, sheet-good, sheet-words}
-use Rattle.board.specs.LawsBoard.{Board, board-told, board-text}
+use Rattle.board.specs.LawsBoard.{mostReading, Board, board-told, board-text}
 use Rattle.reports.specs.Programs.{checksumText, verdictLine, verifyNumber, verifyText}
 
 -- ---- checksum
@@ -38,19 +39,19 @@ module _ (table sheet : List ℕ) (number : ℕ) (e : number ≡ boardNumber tab
   checksum-refused n = board-told table sheet number e (λ k. refusedText k 0) _ n
 
   pub checksum-found : number ≡ 0 → (d : Device) (reading : List ℕ) → Board table sheet d reading
-      → (s : Sum) → s ≡ summed d (take (d .words + 9) reading) → sumText (s .sum) ≡ checksumText table sheet
+      → (s : Sum) → s ≡ summed d (take (d .words + readingTail) reading) → sumText (s .sum) ≡ checksumText table sheet
   unfolding checksumText
   checksum-found z d reading b s is =
-      ap (λ x. sumText (x .sum)) (is ∙ summed-0 d (take (d .words + 9) reading) (b .sound) (b .good))
+      ap (λ x. sumText (x .sum)) (is ∙ summed-0 d (take (d .words + readingTail) reading) (b .sound) (b .good))
       ∙ (ap (λ l. sumText (checksumOf d l)) (b .front)
-      ∙ (ap (λ x. sumText (checksumOf x (readingOf table sheet))) (b .record-is)
-      ∙ board-text table sheet number e (sumText (checksumOf (recordOf table sheet) (readingOf table sheet))) (refusedText (boardNumber table sheet) 0) z))
+      ∙ (ap (λ x. sumText (checksumOf x (boardReading table sheet))) (b .record-is)
+      ∙ board-text table sheet number e (sumText (checksumOf (recordOf table sheet) (boardReading table sheet))) (refusedText (boardNumber table sheet) 0) z))
 
 pub checksum-short : (table sheet : List ℕ) → length (checksumText table sheet) ≤ 64
 unfolding checksumText
 checksum-short table sheet =
     either-short 64 (omega arith) (boardNumber table sheet) 0 _
-    (λ z. let few : length (sumText (checksumOf (recordOf table sheet) (readingOf table sheet))) ≤ 30 = sum-short _ in omega arith)
+    (λ z. let few : length (sumText (checksumOf (recordOf table sheet) (boardReading table sheet))) ≤ 30 = sum-short _ in omega arith)
 
 -- ---- verify
 
@@ -63,7 +64,7 @@ module _ (table sheet wanted : List ℕ) (number : ℕ) (e : number ≡ boardNum
       same = unfold verifyNumber in pick-false _ _ _ (ne-eqb (boardNumber table sheet) 0 (λ z. n (e ∙ z))) ∙ sym e
 
   -- the wanted sheet is read under the board's record, into a buffer of its length
-  module _ (z : number ≡ 0) (d : Device) (reading : List ℕ) (b : Board table sheet d reading) (buffer : List ℕ) (long : length buffer ≡ d .words + 9)
+  module _ (z : number ≡ 0) (d : Device) (reading : List ℕ) (b : Board table sheet d reading) (buffer : List ℕ) (long : length buffer ≡ d .words + readingTail)
       (n : ℕ) (f : n ≡ readNumber d wanted buffer) where
     judged-is : verifyNumber table sheet wanted ≡ pick (sheetOk d wanted) 0 14
     unfolding verifyNumber
@@ -84,45 +85,49 @@ module _ (table sheet wanted : List ℕ) (number : ℕ) (e : number ≡ boardNum
       these : words ≡ wordsIn (d .words) wanted
       these = sheet-words d (b .sound) wanted buffer long n f y words w
 
-      count : length words ≡ d .words + 9
+      count : length words ≡ d .words + readingTail
       count = ap length these ∙ length-words (d .words) wanted
 
-      front : take (d .words + 9) (words ++ rest) ≡ wordsIn (d .words) wanted
-      front = take-at words rest (d .words + 9) count ∙ these
+      front : take (d .words + readingTail) (words ++ rest) ≡ wordsIn (d .words) wanted
+      front = take-at words rest (d .words + readingTail) count ∙ these
 
-      pub verify-within : d .words + 9 ≤ length (words ++ rest)
+      pub verify-within : d .words + readingTail ≤ length (words ++ rest)
       verify-within = rw (length-append words rest) (omega (arith, count))
 
-      pub verify-long : length (take (d .words + 9) (words ++ rest)) ≡ d .words + 9
-      verify-long = length-take-le (d .words + 9) (words ++ rest) verify-within
+      pub verify-long : length (take (d .words + readingTail) (words ++ rest)) ≡ d .words + readingTail
+      verify-long = length-take-le (d .words + readingTail) (words ++ rest) verify-within
 
-      module _ (v : Verdict) (is : v ≡ verified d (take (d .words + 9) (words ++ rest)) (take (d .words + 9) reading)) where
-        verdict-is : v ≡ verdictOf (d .words) (wordsIn (d .words) wanted) (take (d .words + 9) reading)
+      module _ (v : Verdict) (is : v ≡ verified d (take (d .words + readingTail) (words ++ rest)) (take (d .words + readingTail) reading)) where
+        verdict-is : v ≡ verdictOf (d .words) (wordsIn (d .words) wanted) (take (d .words + readingTail) reading)
         verdict-is =
-            is ∙ (ap (λ l. verified d l (take (d .words + 9) reading)) front
-            ∙ verified-judged d (wordsIn (d .words) wanted) (take (d .words + 9) reading) (b .sound) (read-sound d wanted good) (b .good))
+            is ∙ (ap (λ l. verified d l (take (d .words + readingTail) reading)) front
+            ∙ verified-judged d (wordsIn (d .words) wanted) (take (d .words + readingTail) reading) (b .sound) (read-sound d wanted good) (b .good))
 
         pub verify-found : verdictText (v .number) (v .address .0) (v .count) ≡ verifyText table sheet wanted
         unfolding verifyText verdictLine
         verify-found =
             ap verdictLine verdict-is
             ∙ (ap (λ l. verdictLine (verdictOf (d .words) (wordsIn (d .words) wanted) l)) (b .front)
-            ∙ (ap (λ x. verdictLine (verdictOf (x .words) (wordsIn (x .words) wanted) (readingOf table sheet))) (b .record-is)
+            ∙ (ap (λ x. verdictLine (verdictOf (x .words) (wordsIn (x .words) wanted) (boardReading table sheet))) (b .record-is)
             ∙ sym (pick-true _ _ _ (eq-eqb (verifyNumber table sheet wanted) 0 (judged-is ∙ pick-true _ _ _ good)))))
 
         -- the count fits a number that is printed
-        pub verify-count : v .count ≤ 8201
+        pub verify-count : v .count ≤ mostReading
         verify-count =
-            let same : v .count ≡ verdictOf (d .words) (wordsIn (d .words) wanted) (take (d .words + 9) reading) .count = ap (λ x. x .count) verdict-is in
-            let most : d .words ≤ 8192 = b .most in
-            omega (arith, counted (d .words) (wordsIn (d .words) wanted) (take (d .words + 9) reading))
+            let same : v .count ≡ verdictOf (d .words) (wordsIn (d .words) wanted) (take (d .words + readingTail) reading) .count = ap (λ x. x .count) verdict-is in
+            let most : d .words ≤ mostWords = b .most in
+            omega (arith, counted (d .words) (wordsIn (d .words) wanted) (take (d .words + readingTail) reading))
           where
-            counted : (p : ℕ) (aim l : List ℕ) → verdictOf p aim l .count ≤ p + 9
-            counted p aim l = unfold verdictOf in by (ltb 0 (countTo (p + 9) (differs p aim l))) (protected p l) (count-le (p + 9) (differs p aim l))
+            counted : (p : ℕ) (aim l : List ℕ) → verdictOf p aim l .count ≤ p + readingTail
+            counted p aim l = unfold verdictOf in by (ltb 0 (countTo (p + readingTail) (entryDiffers p aim l))) (protected p l) (count-le (p + readingTail) (entryDiffers p aim l))
               where
-                by : (c h : Bool) → countTo (p + 9) (differs p aim l) ≤ p + 9
-                    → pick c (record { number = 40; address = record { 0 = addressOf configBase p (firstTo (p + 9) (differs p aim l)) }; count = countTo (p + 9) (differs p aim l) })
-                    (pick h (bare 41) (bare 0)) .count ≤ p + 9
+                by : (c h : Bool) → countTo (p + readingTail) (entryDiffers p aim l) ≤ p + readingTail
+                    → pick c (record {
+                      number = 40;
+                      address = record { 0 = addressOf configBase p (firstTo (p + readingTail) (entryDiffers p aim l)) };
+                      count = countTo (p + readingTail) (entryDiffers p aim l);
+                    })
+                    (pick h (bare 41) (bare 0)) .count ≤ p + readingTail
                 by true h m = unfold pick in m
                 by false true m = unfold pick bare in omega arith
                 by false false m = unfold pick bare in omega arith
@@ -134,4 +139,4 @@ verify-short table sheet wanted =
     (λ z. unfold verdictLine in omega (arith, verdict-short (verdict .number) (verdict .address .0) (verdict .count)))
   where
     verdict : Verdict
-    verdict = verdictOf (recordOf table sheet .words) (wordsIn (recordOf table sheet .words) wanted) (readingOf table sheet)
+    verdict = verdictOf (recordOf table sheet .words) (wordsIn (recordOf table sheet .words) wanted) (boardReading table sheet)

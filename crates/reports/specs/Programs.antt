@@ -2,19 +2,19 @@
 use Prim.Native.Nat.{ℕ}
 use mathlib.Core.List.{List}
 use lib.Dec.{eqb}
-use Rattle.words.specs.Choice.{pick}
+use Rattle.words.specs.Choice.{unless}
 use Rattle.sheet.specs.Sheet.{sheetOk, wordsIn}
 use Rattle.judge.specs.Checksum.{checksumOf}
 use Rattle.judge.specs.Verify.{verdictOf}
 use Rattle.judge.specs.declared.Verdict.{Verdict}
 use Rattle.print.specs.Print.{refusedText, sumText, verdictText}
-use Rattle.board.specs.Open.{recordOf, boardNumber, readingOf}
+use Rattle.board.specs.Open.{recordOf, boardNumber, boardReading}
 
 -- four hex digits
 unfoldable pub checksumText : (table sheet : List ℕ) → List ℕ
 checksumText table sheet =
-    pick (eqb (boardNumber table sheet) 0) (sumText (checksumOf (recordOf table sheet) (readingOf table sheet)))
-    (refusedText (boardNumber table sheet) 0)
+    unless (eqb (boardNumber table sheet) 0) (refusedText (boardNumber table sheet) 0)
+    (sumText (checksumOf (recordOf table sheet) (boardReading table sheet)))
 
 -- a verdict's line
 unfoldable pub verdictLine : Verdict → List ℕ
@@ -23,10 +23,11 @@ verdictLine v = verdictText (v .number) (v .address .0) (v .count)
 -- the board's sheet, and then the wanted one, under the same record
 unfoldable pub verifyNumber : (table sheet wanted : List ℕ) → ℕ
 verifyNumber table sheet wanted =
-    pick (eqb (boardNumber table sheet) 0) (pick (sheetOk (recordOf table sheet) wanted) 0 14) (boardNumber table sheet)
+    unless (eqb (boardNumber table sheet) 0) (boardNumber table sheet)
+    (unless (sheetOk (recordOf table sheet) wanted) 14
+    0)
 
 unfoldable pub verifyText : (table sheet wanted : List ℕ) → List ℕ
 verifyText table sheet wanted =
-    pick (eqb (verifyNumber table sheet wanted) 0)
-    (verdictLine (verdictOf (recordOf table sheet .words) (wordsIn (recordOf table sheet .words) wanted) (readingOf table sheet)))
-    (refusedText (verifyNumber table sheet wanted) 0)
+    unless (eqb (verifyNumber table sheet wanted) 0) (refusedText (verifyNumber table sheet wanted) 0)
+    (verdictLine (verdictOf (recordOf table sheet .words) (wordsIn (recordOf table sheet .words) wanted) (boardReading table sheet)))

@@ -1,4 +1,5 @@
 // The program checksum.
+use device::READING_TAIL;
 ghost use Prim.Native.Nat.{_≤_};
 ghost use Rattle.print.specs.Print.{Prints};
 ghost use Rattle.reports.specs.Programs.{checksumText};
@@ -13,7 +14,7 @@ pub fn checksum(table: &[u8], sheet: &[u8], out: &mut [u8]) -> usize
         return print::refusal(out, opened.number, 0);
     }
     let device = opened.device;
-    let count = (device.words as usize) + 9;
+    let count = (device.words as usize) + READING_TAIL;
     let sum = judge::checksum(device, &reading[..count]);
     print::sum(out, sum.sum)
 }

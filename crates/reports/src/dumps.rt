@@ -1,15 +1,19 @@
 // The program dump.
+use device::IDS;
+use device::MOST_WORDS;
+use device::READING_TAIL;
 use words::NOT_GIVEN;
 ghost use Prim.Native.Nat.{_≤_};
 ghost use Rattle.print.specs.Print.{Prints};
 ghost use Rattle.reports.specs.Dump.{dumpText};
+ghost use Rattle.reports.specs.LawsDump.{mostDump};
 
 // The longest HEX text that is written: 14P + 156 bytes.
-const MOST_DUMP: usize = 114844;
+const MOST_DUMP: usize = 14 * (MOST_WORDS as usize) + 156;
 
 // Prints a board's sheet as HEX text as far as there is room, and answers the length of the whole text.
 pub fn dump(table: &[u8], sheet: &[u8], out: &mut [u8]) -> usize
-    ensures { λ r. ⌜ (Prints (dumpText (now (table .entry)) (now (sheet .entry))) (now (out .entry)) r (now (out .exit))) × (r ≤ 114844) ⌝ }
+    ensures { λ r. ⌜ (Prints (dumpText (now (table .entry)) (now (sheet .entry))) (now (out .entry)) r (now (out .exit))) × (r ≤ mostDump) ⌝ }
 {
     let mut image = [0u16; board::MOST_READING];
     let opened = board::open_board(table, sheet, &mut image);
@@ -18,11 +22,11 @@ pub fn dump(table: &[u8], sheet: &[u8], out: &mut [u8]) -> usize
     }
     let device = opened.device;
     // the reading is an image but for the three words that are never given
-    let first = (device.words as usize) + 4;
+    let first = (device.words as usize) + IDS;
     image[first] = NOT_GIVEN;
     image[first + 1] = NOT_GIVEN;
     image[first + 2] = NOT_GIVEN;
-    let count = (device.words as usize) + 9;
+    let count = (device.words as usize) + READING_TAIL;
     let mut hex = [0u8; MOST_DUMP];
     let written = hexwrite::write_hex(device, &image[..count], &mut hex);
     // an image under a sound record is not refused, and its text has room

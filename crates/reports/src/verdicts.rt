@@ -1,4 +1,5 @@
 // The program verify.
+use device::READING_TAIL;
 ghost use Prim.Native.Nat.{_≤_};
 ghost use Rattle.print.specs.Print.{Prints};
 ghost use Rattle.reports.specs.Programs.{verifyText};
@@ -13,7 +14,7 @@ pub fn verify(table: &[u8], sheet: &[u8], wanted: &[u8], out: &mut [u8]) -> usiz
         return print::refusal(out, opened.number, 0);
     }
     let device = opened.device;
-    let count = (device.words as usize) + 9;
+    let count = (device.words as usize) + READING_TAIL;
     let mut aim = [0u16; board::MOST_READING];
     if sheet::read_sheet(device, wanted, &mut aim[..count]) != 0 {
         return print::refusal(out, 14, 0);

@@ -8,7 +8,6 @@ use mathlib.Core.List.{List}
 use lib.Dec.{eqb}
 use lib.ListN.{length, getD}
 use borrow.Author.Tests.{eq-eqb, eqb-true}
-use Rattle.words.specs.Choice.{pick}
 use Rattle.words.specs.Word.{isWord}
 use Rattle.words.specs.Lists.{every}
 use Rattle.numerals.specs.Text.{tab, lf}
@@ -19,9 +18,9 @@ use Rattle.words.specs.LawsLists.{every-at, every-all}
 use Rattle.words.specs.LawsWord.{is-word, word-lt, words-each, words-of}
 use Rattle.device.specs.declared.Device.{Device}
 use Rattle.device.specs.Record.{deviceOk}
-use Rattle.device.specs.Memory.{readingOk}
+use Rattle.device.specs.Memory.{readingTail, readingOk}
 use Rattle.device.specs.LawsRecord.{Rules, rules, words-eighths}
-use Rattle.sheet.specs.Sheet.{sheetText, sheetLength, wordsIn, sameText, sheetOk, firstLine}
+use Rattle.sheet.specs.Sheet.{sheetText, sheetLength, wordsIn, sameText, sheetOk}
 use Rattle.sheet.specs.LawsStands.{stands-self, stands-whole, stands-word, word-stands}
 use Rattle.sheet.specs.LawsSheet.{Line, Parts, parts-stand, stand-parts, length-sheet, digits-program, digits-last, length-words, word-in, same-self, read-sound, read-written}
 
@@ -36,13 +35,13 @@ unfoldable pub fieldsOk : (text : List ℕ) (at count : ℕ) → Bool
 fieldsOk text at count = every count (λ k. fieldOk text (at + 5 * k))
 
 -- an address, so many words, LF
-unfoldable pub lineOk : (text : List ℕ) (at address count : ℕ) → Bool
-lineOk text at address count =
+unfoldable pub sheetLineOk : (text : List ℕ) (at address count : ℕ) → Bool
+sheetLineOk text at address count =
     eqb (wordBy capitalOf text at) address && fieldsOk text (at + 4) count && eqb (getD text (at + 4 + 5 * count) 0) lf
 
 -- so many program lines after line 1
 unfoldable pub linesOk : (text : List ℕ) (lines : ℕ) → Bool
-linesOk text lines = every lines (λ k. lineOk text (5 + 45 * k) (8 * k) 8)
+linesOk text lines = every lines (λ k. sheetLineOk text (5 + 45 * k) (8 * k) 8)
 
 -- the length, line 1, the program lines, the last line
 unfoldable pub placesOk : (id words : ℕ) (text : List ℕ) → Bool
@@ -51,7 +50,7 @@ placesOk id words text =
     && eqb (wordBy capitalOf text 0) id
     && eqb (getD text 4 0) lf
     && linesOk text (words / 8)
-    && lineOk text (5 + 45 * (words / 8)) configBase 9
+    && sheetLineOk text (5 + 45 * (words / 8)) configBase readingTail
 
 -- ---- a line's tests and its parts
 
@@ -87,8 +86,8 @@ module _ (t : List ℕ) (at address count : ℕ) where
   stop : Bool
   stop = eqb (getD t (at + 4 + 5 * count) 0) lf
 
-  pub line-is : lineOk t at address count ≡ true → LineIs t at address count
-  unfolding lineOk fieldsOk start stop
+  pub line-is : sheetLineOk t at address count ≡ true → LineIs t at address count
+  unfolding sheetLineOk fieldsOk start stop
   line-is e =
       let two : (start && fieldsOk t (at + 4) count) ≡ true = first-holds (start && fieldsOk t (at + 4) count) stop e in
       record {
@@ -97,10 +96,14 @@ module _ (t : List ℕ) (at address count : ℕ) where
         end-here = eqb-true (getD t (at + 4 + 5 * count) 0) lf (second-holds (start && fieldsOk t (at + 4) count) stop e);
       }
 
-  pub is-line : LineIs t at address count → lineOk t at address count ≡ true
-  unfolding lineOk fieldsOk
+  pub is-line : LineIs t at address count → sheetLineOk t at address count ≡ true
+  unfolding sheetLineOk fieldsOk
   is-line p =
-      rw (eq-eqb (wordBy capitalOf t at) address (p .address-is), eq-eqb (getD t (at + 4 + 5 * count) 0) lf (p .end-here), every-all count (λ k. fieldOk t (at + 4 + 5 * k)) (λ k h. is-field t (at + 4 + 5 * k) (p .field-here k h)))
+      rw (
+        eq-eqb (wordBy capitalOf t at) address (p .address-is),
+        eq-eqb (getD t (at + 4 + 5 * count) 0) lf (p .end-here),
+        every-all count (λ k. fieldOk t (at + 4 + 5 * k)) (λ k h. is-field t (at + 4 + 5 * k) (p .field-here k h)),
+      )
 
   module _ (i : ℕ) (l : List ℕ) (fits : address < 65536) where
     pub parts-of-line : LineIs t at address count → ((k : ℕ) → k < count → wordBy capitalOf t (at + 4 + 5 * k + 1) ≡ getD l (i + k) 0) → Line at address count i l t
@@ -138,7 +141,7 @@ pub record Places (id words : ℕ) (text : List ℕ) : Type 0 where
   pub id-is : wordBy capitalOf text 0 ≡ id
   pub end-here : getD text 4 0 ≡ lf
   pub line-here : (k : ℕ) → k < words / 8 → LineIs text (5 + 45 * k) (8 * k) 8
-  pub last-here : LineIs text (5 + 45 * (words / 8)) configBase 9
+  pub last-here : LineIs text (5 + 45 * (words / 8)) configBase readingTail
 
 module _ (id words : ℕ) (t : List ℕ) where
   pub places : placesOk id words t ≡ true → Places id words t
@@ -148,7 +151,7 @@ module _ (id words : ℕ) (t : List ℕ) where
       let two : Bool = one && eqb (wordBy capitalOf t 0) id in
       let three : Bool = two && eqb (getD t 4 0) lf in
       let four : Bool = three && linesOk t (words / 8) in
-      let last : Bool = lineOk t (5 + 45 * (words / 8)) configBase 9 in
+      let last : Bool = sheetLineOk t (5 + 45 * (words / 8)) configBase readingTail in
       let e4 : four ≡ true = first-holds four last e in
       let e3 : three ≡ true = first-holds three (linesOk t (words / 8)) e4 in
       let e2 : two ≡ true = first-holds two (eqb (getD t 4 0) lf) e3 in
@@ -156,14 +159,20 @@ module _ (id words : ℕ) (t : List ℕ) where
         long = eqb-true (length t) (5 + 45 * (words / 8) + 50) (first-holds one (eqb (wordBy capitalOf t 0) id) e2);
         id-is = eqb-true (wordBy capitalOf t 0) id (second-holds one (eqb (wordBy capitalOf t 0) id) e2);
         end-here = eqb-true (getD t 4 0) lf (second-holds two (eqb (getD t 4 0) lf) e3);
-        line-here = λ k h. line-is t (5 + 45 * k) (8 * k) 8 (every-at (words / 8) (λ j. lineOk t (5 + 45 * j) (8 * j) 8) (second-holds three (linesOk t (words / 8)) e4) k h);
-        last-here = line-is t (5 + 45 * (words / 8)) configBase 9 (second-holds four last e);
+        line-here = λ k h. line-is t (5 + 45 * k) (8 * k) 8 (every-at (words / 8) (λ j. sheetLineOk t (5 + 45 * j) (8 * j) 8) (second-holds three (linesOk t (words / 8)) e4) k h);
+        last-here = line-is t (5 + 45 * (words / 8)) configBase readingTail (second-holds four last e);
       }
 
   pub of-places : Places id words t → placesOk id words t ≡ true
   unfolding placesOk linesOk
   of-places p =
-      rw (eq-eqb (length t) (5 + 45 * (words / 8) + 50) (p .long), eq-eqb (wordBy capitalOf t 0) id (p .id-is), eq-eqb (getD t 4 0) lf (p .end-here), every-all (words / 8) (λ k. lineOk t (5 + 45 * k) (8 * k) 8) (λ k h. is-line t (5 + 45 * k) (8 * k) 8 (p .line-here k h)), is-line t (5 + 45 * (words / 8)) configBase 9 (p .last-here))
+      rw (
+        eq-eqb (length t) (5 + 45 * (words / 8) + 50) (p .long),
+        eq-eqb (wordBy capitalOf t 0) id (p .id-is),
+        eq-eqb (getD t 4 0) lf (p .end-here),
+        every-all (words / 8) (λ k. sheetLineOk t (5 + 45 * k) (8 * k) 8) (λ k h. is-line t (5 + 45 * k) (8 * k) 8 (p .line-here k h)),
+        is-line t (5 + 45 * (words / 8)) configBase readingTail (p .last-here),
+      )
 
 module _ (d : Device) (sound : deviceOk d ≡ true) (t : List ℕ) where
   read : List ℕ
@@ -182,12 +191,12 @@ module _ (d : Device) (sound : deviceOk d ≡ true) (t : List ℕ) where
       let e : d .words % 8 ≡ 0 = eighths in
       sym (word-in (d .words) t (8 * line + k) (omega arith) ∙ ap (wordBy capitalOf t) (digits-program (d .words) line k h (omega arith)))
 
-  last-word : (k : ℕ) → k < 9 → wordBy capitalOf t (5 + 45 * (d .words / 8) + 4 + 5 * k + 1) ≡ getD read (d .words + k) 0
+  last-word : (k : ℕ) → k < readingTail → wordBy capitalOf t (5 + 45 * (d .words / 8) + 4 + 5 * k + 1) ≡ getD read (d .words + k) 0
   unfolding read
   last-word k h = sym (word-in (d .words) t (d .words + k) (omega arith) ∙ ap (wordBy capitalOf t) (digits-last (d .words) k))
 
   -- each word of a text that passes the tests
-  small : Places (d .id) (d .words) t → (i : ℕ) → i < d .words + 9 → Dec (i < d .words) → getD read i 0 < 0x4000
+  small : Places (d .id) (d .words) t → (i : ℕ) → i < d .words + readingTail → Dec (i < d .words) → getD read i 0 < 0x4000
   small p i h (yes q) =
       let e : d .words % 8 ≡ 0 = eighths in
       let whole : 8 * (i / 8) + i % 8 ≡ i = omega arith in
@@ -197,7 +206,7 @@ module _ (d : Device) (sound : deviceOk d ≡ true) (t : List ℕ) where
       (rw (program-word (i / 8) (i % 8) row column) at (p .line-here (i / 8) row .field-here (i % 8) column .word-small))
   small p i h (no q) =
       let whole : d .words + (i - d .words) ≡ i = omega arith in
-      let column : i - d .words < 9 = omega arith in
+      let column : i - d .words < readingTail = omega arith in
       rw (ap (λ n. getD read n 0) whole) at
       (rw (last-word (i - d .words) column) at (p .last-here .field-here (i - d .words) column .word-small))
 
@@ -210,19 +219,19 @@ module _ (d : Device) (sound : deviceOk d ≡ true) (t : List ℕ) where
         id-here = stands-word t 0 (d .id) (p .id-is) (omega arith);
         end-here = p .end-here;
         line-here = λ k h. parts-of-line t (5 + 45 * k) (8 * k) 8 (8 * k) read (omega arith) (p .line-here k h) (λ j q. program-word k j h q);
-        last-here = parts-of-line t (5 + 45 * (d .words / 8)) configBase 9 (d .words) read (omega arith) (p .last-here) last-word;
+        last-here = parts-of-line t (5 + 45 * (d .words / 8)) configBase readingTail (d .words) read (omega arith) (p .last-here) last-word;
       } in
       let long : length t ≡ length (sheetText d read) = p .long ∙ sym (length-sheet d read ∙ (unfold sheetLength in refl)) in
       let same : t ≡ sheetText d read = stands-whole (sheetText d read) t (stand-parts d read t parts) long in
       both (readingOk (d .words) read) (sameText t (sheetText d read))
-      (words-of (d .words + 9) read (length-words (d .words) t) (λ i h. small p i h (decLt i (d .words))))
+      (words-of (d .words + readingTail) read (length-words (d .words) t) (λ i h. small p i h (decLt i (d .words))))
       (ap (sameText t) (sym same) ∙ same-self t)
 
   stands : sheetOk d t ≡ true → Places (d .id) (d .words) t
   unfolding readingOk read
   stands ok =
       let r : Rules d = kept in
-      let each : (i : ℕ) → getD read i 0 < 0x4000 = words-each (d .words + 9) read (read-sound d t ok) in
+      let each : (i : ℕ) → getD read i 0 < 0x4000 = words-each (d .words + readingTail) read (read-sound d t ok) in
       let same : sheetText d read ≡ t = read-written d t ok in
       let parts : Parts d read t = parts-stand d read t (rw same (stands-self t)) in
       record {
@@ -230,7 +239,7 @@ module _ (d : Device) (sound : deviceOk d ≡ true) (t : List ℕ) where
         id-is = word-stands t 0 (d .id) (parts .id-here) (omega arith);
         end-here = parts .end-here;
         line-here = λ k h. line-of-parts t (5 + 45 * k) (8 * k) 8 (8 * k) read (omega arith) (parts .line-here k h) each;
-        last-here = line-of-parts t (5 + 45 * (d .words / 8)) configBase 9 (d .words) read (omega arith) (parts .last-here) each;
+        last-here = line-of-parts t (5 + 45 * (d .words / 8)) configBase readingTail (d .words) read (omega arith) (parts .last-here) each;
       }
 
   -- the tests, place by place, are the test of the sheet
@@ -239,10 +248,3 @@ module _ (d : Device) (sound : deviceOk d ≡ true) (t : List ℕ) where
       same-test (placesOk (d .id) (d .words) t) (sheetOk d t)
       (λ e. passes (places (d .id) (d .words) t e))
       (λ e. of-places (d .id) (d .words) t (stands e))
-
-  -- the first line of a sheet gives its record's ID
-  pub sheet-first : sheetOk d t ≡ true → firstLine t ≡ record { number = 0; id = d .id }
-  unfolding firstLine pick
-  sheet-first ok =
-      let p : Places (d .id) (d .words) t = stands ok in
-      rw (p .id-is, p .end-here, is-word (d .id) (kept .id-word))

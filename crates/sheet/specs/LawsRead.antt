@@ -19,10 +19,10 @@ use Rattle.words.specs.LawsLists.{every-none, every-more, every-no, getD-past, 
 use Rattle.words.specs.LawsWord.{is-word, not-word, words-each}
 use Rattle.device.specs.declared.Device.{Device}
 use Rattle.device.specs.Record.{deviceOk}
-use Rattle.device.specs.Memory.{readingOk}
+use Rattle.device.specs.Memory.{readingTail, readingOk}
 use Rattle.sheet.specs.Sheet.{digitsAt, wordsIn, sheetOk, readNumber, readBuffer, firstLine}
 use Rattle.sheet.specs.LawsSheet.{length-words, word-in}
-use Rattle.sheet.specs.LawsPlaces.{fieldOk, fieldsOk, lineOk, linesOk, placesOk}
+use Rattle.sheet.specs.LawsPlaces.{fieldOk, fieldsOk, sheetLineOk, linesOk, placesOk}
 
 -- ---- the tests as the code makes them
 
@@ -40,17 +40,17 @@ module _ (t : List ℕ) (at : ℕ) where
   field-word e = rw e
 
 module _ (t : List ℕ) (at address count : ℕ) where
-  pub line-no-address : (wordBy capitalOf t at ≡ address → ⊥) → false ≡ lineOk t at address count
-  unfolding lineOk
+  pub line-no-address : (wordBy capitalOf t at ≡ address → ⊥) → false ≡ sheetLineOk t at address count
+  unfolding sheetLineOk
   line-no-address n = rw (ne-eqb (wordBy capitalOf t at) address n)
 
   module _ (e : wordBy capitalOf t at ≡ address) where
-    pub line-no-fields : fieldsOk t (at + 4) count ≡ false → false ≡ lineOk t at address count
-    unfolding lineOk
+    pub line-no-fields : fieldsOk t (at + 4) count ≡ false → false ≡ sheetLineOk t at address count
+    unfolding sheetLineOk
     line-no-fields f = rw (eq-eqb (wordBy capitalOf t at) address e, f)
 
-    pub line-end : fieldsOk t (at + 4) count ≡ true → eqb (getD t (at + 4 + 5 * count) 0) lf ≡ lineOk t at address count
-    unfolding lineOk
+    pub line-end : fieldsOk t (at + 4) count ≡ true → eqb (getD t (at + 4 + 5 * count) 0) lf ≡ sheetLineOk t at address count
+    unfolding sheetLineOk
     line-end f = rw (eq-eqb (wordBy capitalOf t at) address e, f)
 
 module _ (id words : ℕ) (t : List ℕ) where
@@ -73,24 +73,24 @@ module _ (id words : ℕ) (t : List ℕ) where
         unfolding placesOk
         places-no-lines f = rw (eq-eqb (length t) (5 + 45 * (words / 8) + 50) long, eq-eqb (wordBy capitalOf t 0) id same, ends, f)
 
-        pub places-last : linesOk t (words / 8) ≡ true → lineOk t (5 + 45 * (words / 8)) configBase 9 ≡ placesOk id words t
+        pub places-last : linesOk t (words / 8) ≡ true → sheetLineOk t (5 + 45 * (words / 8)) configBase readingTail ≡ placesOk id words t
         unfolding placesOk
         places-last f = rw (eq-eqb (length t) (5 + 45 * (words / 8) + 50) long, eq-eqb (wordBy capitalOf t 0) id same, ends, f)
 
 -- ---- what is stored
 
 -- every word of the buffer replaced
-pub all-stored : (words : ℕ) (t l : List ℕ) → length l ≡ words + 9 → overlay 0 (words + 9) (λ i. wordBy capitalOf t (digitsAt words i)) l ≡ wordsIn words t
+pub all-stored : (words : ℕ) (t l : List ℕ) → length l ≡ words + readingTail → overlay 0 (words + readingTail) (λ i. wordBy capitalOf t (digitsAt words i)) l ≡ wordsIn words t
 all-stored words t l e =
     let f : ℕ → ℕ = λ i. wordBy capitalOf t (digitsAt words i) in
-    same-entries (overlay 0 (words + 9) f l) (wordsIn words t) (length-overlay 0 (words + 9) f l ∙ (e ∙ sym (length-words words t)))
-    (λ i h. let p : i < words + 9 = rw (length-overlay, e) at h in
-    overlay-inside 0 (words + 9) f l i (omega arith) (omega arith) (omega arith) ∙ sym (word-in words t i p))
+    same-entries (overlay 0 (words + readingTail) f l) (wordsIn words t) (length-overlay 0 (words + readingTail) f l ∙ (e ∙ sym (length-words words t)))
+    (λ i h. let p : i < words + readingTail = rw (length-overlay, e) at h in
+    overlay-inside 0 (words + readingTail) f l i (omega arith) (omega arith) (omega arith) ∙ sym (word-in words t i p))
 
 -- a sheet's words fit where they are stored
-pub stored-small : (words : ℕ) (t : List ℕ) → readingOk words (wordsIn words t) ≡ true → (i : ℕ) → i < words + 9 → wordBy capitalOf t (digitsAt words i) < 0x4000
+pub stored-small : (words : ℕ) (t : List ℕ) → readingOk words (wordsIn words t) ≡ true → (i : ℕ) → i < words + readingTail → wordBy capitalOf t (digitsAt words i) < 0x4000
 unfolding readingOk
-stored-small words t ok i h = rw (word-in words t i h) at (words-each (words + 9) (wordsIn words t) ok i)
+stored-small words t ok i h = rw (word-in words t i h) at (words-each (words + readingTail) (wordsIn words t) ok i)
 
 -- where the code looks for word i
 pub digits-low : (words i : ℕ) → i < words → 5 + 45 * (i / 8) + 5 * (i % 8) + 5 ≡ digitsAt words i
@@ -113,15 +113,15 @@ module _ (d : Device) (t b : List ℕ) where
   read-no-record f = (rw f, rw f)
 
   module _ (sound : deviceOk d ≡ true) where
-    pub read-no-room : (length b ≡ d .words + 9 → ⊥) → ReadBy d t b 12 b
+    pub read-no-room : (length b ≡ d .words + readingTail → ⊥) → ReadBy d t b 12 b
     unfolding readNumber readBuffer pick
     read-no-room n =
-        let f : eqb (length b) (d .words + 9) ≡ false = ne-eqb (length b) (d .words + 9) n in
+        let f : eqb (length b) (d .words + readingTail) ≡ false = ne-eqb (length b) (d .words + readingTail) n in
         (rw (sound, f), rw (sound, f))
 
-    module _ (room : length b ≡ d .words + 9) where
-      fits : eqb (length b) (d .words + 9) ≡ true
-      fits = eq-eqb (length b) (d .words + 9) room
+    module _ (room : length b ≡ d .words + readingTail) where
+      fits : eqb (length b) (d .words + readingTail) ≡ true
+      fits = eq-eqb (length b) (d .words + readingTail) room
 
       pub read-no-sheet : sheetOk d t ≡ false → ReadBy d t b 14 b
       unfolding readNumber readBuffer pick
@@ -167,16 +167,16 @@ module _ (t : List ℕ) (at : ℕ) where
 module _ (t : List ℕ) where
   pub lines-none : linesOk t 0 ≡ true
   unfolding linesOk
-  lines-none = every-none (λ k. lineOk t (5 + 45 * k) (8 * k) 8)
+  lines-none = every-none (λ k. sheetLineOk t (5 + 45 * k) (8 * k) 8)
 
   module _ (k : ℕ) where
-    pub lines-more : linesOk t k ≡ true → lineOk t (5 + 45 * k) (8 * k) 8 ≡ true → linesOk t (k + 1) ≡ true
+    pub lines-more : linesOk t k ≡ true → sheetLineOk t (5 + 45 * k) (8 * k) 8 ≡ true → linesOk t (k + 1) ≡ true
     unfolding linesOk
-    lines-more p q = every-more k (λ j. lineOk t (5 + 45 * j) (8 * j) 8) p q
+    lines-more p q = every-more k (λ j. sheetLineOk t (5 + 45 * j) (8 * j) 8) p q
 
-    pub lines-no : (lines : ℕ) → k < lines → lineOk t (5 + 45 * k) (8 * k) 8 ≡ false → false ≡ linesOk t lines
+    pub lines-no : (lines : ℕ) → k < lines → sheetLineOk t (5 + 45 * k) (8 * k) 8 ≡ false → false ≡ linesOk t lines
     unfolding linesOk
-    lines-no lines h f = sym (every-no lines (λ j. lineOk t (5 + 45 * j) (8 * j) 8) k h f)
+    lines-no lines h f = sym (every-no lines (λ j. sheetLineOk t (5 + 45 * j) (8 * j) 8) k h f)
 
     pub lines-end : (lines : ℕ) → lines ≤ k → k ≤ lines → linesOk t k ≡ true → true ≡ linesOk t lines
     lines-end lines p q e = sym (rw (le-antisymm q p) at e)
@@ -195,6 +195,6 @@ module _ (words : ℕ) (t l : List ℕ) where
   stored-more i m at v e p q =
       rw (zero-add i) at (overlay-more 0 i (λ k. wordBy capitalOf t (digitsAt words k)) l m v e (q ∙ (ap (wordBy capitalOf t) p ∙ ap (λ k. wordBy capitalOf t (digitsAt words k)) (sym (zero-add i)))))
 
-  pub stored-end : length l ≡ words + 9 → (i : ℕ) (m : List ℕ) → i ≤ words + 9 → words + 9 ≤ i → m ≡ stored words t i l → m ≡ wordsIn words t
+  pub stored-end : length l ≡ words + readingTail → (i : ℕ) (m : List ℕ) → i ≤ words + readingTail → words + readingTail ≤ i → m ≡ stored words t i l → m ≡ wordsIn words t
   unfolding stored
   stored-end long i m p q e = e ∙ (ap (λ k. overlay 0 k (λ j. wordBy capitalOf t (digitsAt words j)) l) (le-antisymm p q) ∙ all-stored words t l long)

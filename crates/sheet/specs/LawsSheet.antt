@@ -19,7 +19,7 @@ use Rattle.words.specs.LawsLists.{length-build, getD-build, built}
 use Rattle.words.specs.LawsWord.{words-long, words-each}
 use Rattle.device.specs.declared.Device.{Device}
 use Rattle.device.specs.Record.{deviceOk}
-use Rattle.device.specs.Memory.{readingOk}
+use Rattle.device.specs.Memory.{readingTail, readingOk}
 use Rattle.device.specs.LawsRecord.{rules, words-eighths}
 use Rattle.sheet.specs.Sheet.{fields, lineText, programLines, sheetText, sheetLength, digitsAt, wordsIn, sameText, sheetOk}
 use Rattle.sheet.specs.LawsStands.{Stands, stands-join, stands-left, stands-right, stands-byte, byte-stands, stands-next, stands-cons, stands-self, word-stands}
@@ -142,25 +142,26 @@ pub record Parts (d : Device) (l t : List ℕ) : Type 0 where
   pub id-here : Stands 0 (wordText (d .id)) t
   pub end-here : getD t 4 0 ≡ lf
   pub line-here : (k : ℕ) → k < d .words / 8 → Line (5 + 45 * k) (8 * k) 8 (8 * k) l t
-  pub last-here : Line (5 + 45 * (d .words / 8)) configBase 9 (d .words) l t
+  pub last-here : Line (5 + 45 * (d .words / 8)) configBase readingTail (d .words) l t
 
 module _ (d : Device) (l t : List ℕ) where
   -- the text of the program lines and of the last line
   tail : List ℕ
-  tail = programLines (d .words / 8) 0 l ++ lineText configBase 9 (d .words) l
+  tail = programLines (d .words / 8) 0 l ++ lineText configBase readingTail (d .words) l
 
   pub parts-stand : Stands 0 (sheetText d l) t → Parts d l t
   unfolding sheetText tail
   parts-stand p =
       let rest : Stands 4 (lf ∷ tail) t = rw length-word-text at (stands-right 0 (wordText (d .id)) (lf ∷ tail) t p) in
       let body : Stands 5 tail t = stands-next 4 lf tail t rest in
-      let program : Stands 5 (programLines (d .words / 8) 0 l) t = stands-left 5 (programLines (d .words / 8) 0 l) (lineText configBase 9 (d .words) l) t body in
-      let last : Stands (5 + 45 * (d .words / 8)) (lineText configBase 9 (d .words) l) t = rw length-lines at (stands-right 5 (programLines (d .words / 8) 0 l) (lineText configBase 9 (d .words) l) t body) in
+      let program : Stands 5 (programLines (d .words / 8) 0 l) t = stands-left 5 (programLines (d .words / 8) 0 l) (lineText configBase readingTail (d .words) l) t body in
+      let last : Stands (5 + 45 * (d .words / 8)) (lineText configBase readingTail (d .words) l) t = rw length-lines at
+      (stands-right 5 (programLines (d .words / 8) 0 l) (lineText configBase readingTail (d .words) l) t body) in
       record {
         id-here = stands-left 0 (wordText (d .id)) (lf ∷ tail) t p;
         end-here = byte-stands 4 lf tail t rest;
         line-here = λ k h. line-stands (5 + 45 * k) (8 * k) 8 (8 * k) l t (rw zero-add at (lines-stand (d .words / 8) 5 0 l t program k h));
-        last-here = line-stands (5 + 45 * (d .words / 8)) configBase 9 (d .words) l t last;
+        last-here = line-stands (5 + 45 * (d .words / 8)) configBase readingTail (d .words) l t last;
       }
 
   pub stand-parts : Parts d l t → Stands 0 (sheetText d l) t
@@ -168,11 +169,11 @@ module _ (d : Device) (l t : List ℕ) where
   stand-parts p =
       let program : Stands 5 (programLines (d .words / 8) 0 l) t =
       stand-lines (d .words / 8) 5 0 l t (λ k h. rw zero-add (stand-line (5 + 45 * k) (8 * k) 8 (8 * k) l t (p .line-here k h))) in
-      let last : Stands (5 + 45 * (d .words / 8)) (lineText configBase 9 (d .words) l) t = stand-line (5 + 45 * (d .words / 8)) configBase 9 (d .words) l t (p .last-here) in
+      let last : Stands (5 + 45 * (d .words / 8)) (lineText configBase readingTail (d .words) l) t = stand-line (5 + 45 * (d .words / 8)) configBase readingTail (d .words) l t (p .last-here) in
       stands-join 0 (wordText (d .id)) (lf ∷ tail) t (p .id-here)
       (rw length-word-text
       (stands-cons 4 lf tail t (p .end-here)
-      (stands-join 5 (programLines (d .words / 8) 0 l) (lineText configBase 9 (d .words) l) t program (rw length-lines last))))
+      (stands-join 5 (programLines (d .words / 8) 0 l) (lineText configBase readingTail (d .words) l) t program (rw length-lines last))))
 
 -- ---- where the words stand
 
@@ -193,13 +194,13 @@ module _ (words : ℕ) where
       pick-false (ltb (words + k) words) _ _ (le-ltb (words + k) words (omega arith))
       ∙ omega arith
 
-  pub length-words : (t : List ℕ) → length (wordsIn words t) ≡ words + 9
+  pub length-words : (t : List ℕ) → length (wordsIn words t) ≡ words + readingTail
   unfolding wordsIn
-  length-words t = length-build (words + 9) _
+  length-words t = length-build (words + readingTail) _
 
-  pub word-in : (t : List ℕ) (i : ℕ) → i < words + 9 → getD (wordsIn words t) i 0 ≡ wordBy capitalOf t (digitsAt words i)
+  pub word-in : (t : List ℕ) (i : ℕ) → i < words + readingTail → getD (wordsIn words t) i 0 ≡ wordBy capitalOf t (digitsAt words i)
   unfolding wordsIn
-  word-in t i h = getD-build (words + 9) _ i h
+  word-in t i h = getD-build (words + readingTail) _ i h
 
 -- ---- one text or another
 
@@ -224,9 +225,9 @@ module _ (d : Device) (sound : deviceOk d ≡ true) where
   eighths : d .words % 8 ≡ 0
   eighths = words-eighths d (rules d sound)
 
-  module _ (l t : List ℕ) (parts : Parts d l t) (long : length l ≡ d .words + 9) (small : (i : ℕ) → getD l i 0 < 0x4000) where
+  module _ (l t : List ℕ) (parts : Parts d l t) (long : length l ≡ d .words + readingTail) (small : (i : ℕ) → getD l i 0 < 0x4000) where
     -- each word is read where it stands
-    word-read : (i : ℕ) → i < d .words + 9 → Dec (i < d .words) → getD l i 0 ≡ wordBy capitalOf t (digitsAt (d .words) i)
+    word-read : (i : ℕ) → i < d .words + readingTail → Dec (i < d .words) → getD l i 0 ≡ wordBy capitalOf t (digitsAt (d .words) i)
     word-read i h (yes p) =
         let e : d .words % 8 ≡ 0 = eighths in
         let row : i / 8 < d .words / 8 = omega arith in
@@ -247,14 +248,14 @@ module _ (d : Device) (sound : deviceOk d ≡ true) where
 
     read-back : wordsIn (d .words) t ≡ l
     unfolding wordsIn
-    read-back = sym (built l (d .words + 9) (λ i. wordBy capitalOf t (digitsAt (d .words) i)) long (λ i h. word-read i h (decLt i (d .words))))
+    read-back = sym (built l (d .words + readingTail) (λ i. wordBy capitalOf t (digitsAt (d .words) i)) long (λ i h. word-read i h (decLt i (d .words))))
 
   -- what is written is a sheet, and it is read back as the same reading
   pub written-read : (l : List ℕ) → readingOk (d .words) l ≡ true → (sheetOk d (sheetText d l) ≡ true) × (wordsIn (d .words) (sheetText d l) ≡ l)
   unfolding readingOk sheetOk
   written-read l ok =
       let t : List ℕ = sheetText d l in
-      let same : wordsIn (d .words) t ≡ l = read-back l t (parts-stand d l t (stands-self t)) (words-long (d .words + 9) l ok) (words-each (d .words + 9) l ok) in
+      let same : wordsIn (d .words) t ≡ l = read-back l t (parts-stand d l t (stands-self t)) (words-long (d .words + readingTail) l ok) (words-each (d .words + readingTail) l ok) in
       (rw same (both (readingOk (d .words) l) (sameText t (sheetText d l)) ok (same-self t)), same)
 
 -- a sheet's words are a reading

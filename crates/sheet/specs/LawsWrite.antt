@@ -18,7 +18,7 @@ use Rattle.numerals.specs.LawsHex.{length-word-text}
 use Rattle.words.specs.LawsLists.{sets-append}
 use Rattle.device.specs.declared.Device.{Device}
 use Rattle.device.specs.Record.{deviceOk}
-use Rattle.device.specs.Memory.{readingOk}
+use Rattle.device.specs.Memory.{readingTail, readingOk}
 use Rattle.sheet.specs.declared.Written.{Written}
 use Rattle.sheet.specs.Sheet.{fields, lineText, programLines, sheetText, sheetLength, written, writtenText}
 use Rattle.sheet.specs.LawsSheet.{length-fields, length-line, length-lines}
@@ -82,11 +82,11 @@ lines-done n k l o h = let none : n - k ≡ 0 = omega arith in rw none
 
 module _ (d : Device) (l o p q r s : List ℕ) where
   pub sheet-put : p ≡ sets o 0 (wordText (d .id)) → q ≡ set p 4 lf → r ≡ sets q 5 (programLines (d .words / 8) 0 l)
-      → s ≡ sets r (5 + 45 * (d .words / 8)) (lineText configBase 9 (d .words) l) → s ≡ sets o 0 (sheetText d l)
+      → s ≡ sets r (5 + 45 * (d .words / 8)) (lineText configBase readingTail (d .words) l) → s ≡ sets o 0 (sheetText d l)
   unfolding sheetText
   sheet-put e f g h =
-      sym (sets-then o 0 (wordText (d .id)) (lf ∷ (programLines (d .words / 8) 0 l ++ lineText configBase 9 (d .words) l)) 4 (length-word-text (d .id))
-      ∙ (sets-then (set (sets o 0 (wordText (d .id))) 4 lf) 5 (programLines (d .words / 8) 0 l) (lineText configBase 9 (d .words) l) (45 * (d .words / 8)) (length-lines (d .words / 8) 0 l)
+      sym (sets-then o 0 (wordText (d .id)) (lf ∷ (programLines (d .words / 8) 0 l ++ lineText configBase readingTail (d .words) l)) 4 (length-word-text (d .id))
+      ∙ (sets-then (set (sets o 0 (wordText (d .id))) 4 lf) 5 (programLines (d .words / 8) 0 l) (lineText configBase readingTail (d .words) l) (45 * (d .words / 8)) (length-lines (d .words / 8) 0 l)
       ∙ rw (h, g, f, e)))
 
 -- ---- the answers

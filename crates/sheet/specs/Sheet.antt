@@ -5,15 +5,15 @@ use mathlib.Core.List.{List, [], _∷_, _++_}
 use lib.Dec.{ltb, leb, eqb}
 use lib.ListN.{length, getD}
 use lib.Seq.{sets}
-use Rattle.words.specs.Choice.{pick}
+use Rattle.words.specs.Choice.{pick, unless}
 use Rattle.words.specs.Word.{isWord}
 use Rattle.words.specs.Lists.{build}
 use Rattle.numerals.specs.Text.{tab, lf}
 use Rattle.numerals.specs.Hex.{capitalOf, wordBy, wordText}
 use Rattle.words.specs.Address.{configBase}
 use Rattle.device.specs.declared.Device.{Device}
-use Rattle.device.specs.Record.{deviceOk}
-use Rattle.device.specs.Memory.{readingOk}
+use Rattle.device.specs.Record.{mostWords, deviceOk}
+use Rattle.device.specs.Memory.{readingTail, readingOk}
 use Rattle.sheet.specs.declared.Written.{Written}
 use Rattle.sheet.specs.declared.Line1.{Line1}
 
@@ -36,7 +36,11 @@ programLines (suc n) k l = lineText (8 * k) 8 (8 * k) l ++ programLines n (k + 1
 -- line 1 is the device ID; then the program words, eight a line; last a line 8000 with nine words
 unfoldable pub sheetText : Device → List ℕ → List ℕ
 sheetText d l =
-    wordText (d .id) ++ (lf ∷ (programLines (d .words / 8) 0 l ++ lineText configBase 9 (d .words) l))
+    wordText (d .id) ++ (lf ∷ (programLines (d .words / 8) 0 l ++ lineText configBase readingTail (d .words) l))
+
+-- the most lines of program words
+abbrev pub mostProgramLines : ℕ
+mostProgramLines = mostWords / 8
 
 -- its length
 unfoldable pub sheetLength : Device → ℕ
@@ -50,7 +54,7 @@ digitsAt words i = pick (ltb i words) (5 + 45 * (i / 8) + 5 * (i % 8) + 5) (5 + 
 
 -- the words that stand there
 unfoldable pub wordsIn : (words : ℕ) → List ℕ → List ℕ
-wordsIn words text = build (words + 9) (λ i. wordBy capitalOf text (digitsAt words i))
+wordsIn words text = build (words + readingTail) (λ i. wordBy capitalOf text (digitsAt words i))
 
 unfoldable pub sameText : List ℕ → List ℕ → Bool
 sameText [] [] = true
@@ -66,7 +70,11 @@ sheetOk d text = readingOk (d .words) (wordsIn (d .words) text) && sameText text
 
 -- the reader: 13, 12, 14
 unfoldable pub readNumber : Device → (text buffer : List ℕ) → ℕ
-readNumber d text buffer = pick (deviceOk d) (pick (eqb (length buffer) (d .words + 9)) (pick (sheetOk d text) 0 14) 12) 13
+readNumber d text buffer =
+    unless (deviceOk d) 13
+    (unless (eqb (length buffer) (d .words + readingTail)) 12
+    (unless (sheetOk d text) 14
+    0))
 
 -- a refused sheet leaves the buffer
 unfoldable pub readBuffer : Device → (text buffer : List ℕ) → List ℕ
@@ -75,12 +83,10 @@ readBuffer d text buffer = pick (eqb (readNumber d text buffer) 0) (wordsIn (d .
 -- the writer: 13, 21, 26
 unfoldable pub written : Device → (reading out : List ℕ) → Written
 written d l out =
-    pick (deviceOk d)
-    (pick (readingOk (d .words) l)
-    (pick (leb (sheetLength d) (length out)) (record { number = 0; length = sheetLength d })
-    (record { number = 26; length = 0 }))
-    (record { number = 21; length = 0 }))
-    (record { number = 13; length = 0 })
+    unless (deviceOk d) (record { number = 13; length = 0 })
+    (unless (readingOk (d .words) l) (record { number = 21; length = 0 })
+    (unless (leb (sheetLength d) (length out)) (record { number = 26; length = 0 })
+    (record { number = 0; length = sheetLength d })))
 
 -- bytes past the sheet stay, and a refusal writes nothing
 unfoldable pub writtenText : Device → (reading out : List ℕ) → List ℕ
@@ -89,5 +95,5 @@ writtenText d l out = pick (eqb (written d l out .number) 0) (sets out 0 (sheetT
 -- the first line alone: an ID that some record can have, and LF
 unfoldable pub firstLine : List ℕ → Line1
 firstLine text =
-    pick (isWord (wordBy capitalOf text 0) && eqb (getD text 4 0) lf) (record { number = 0; id = wordBy capitalOf text 0 })
-    (record { number = 14; id = 0 })
+    unless (isWord (wordBy capitalOf text 0) && eqb (getD text 4 0) lf) (record { number = 14; id = 0 })
+    (record { number = 0; id = wordBy capitalOf text 0 })

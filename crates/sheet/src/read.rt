@@ -3,6 +3,7 @@ use crate::LF;
 use crate::Line1;
 use crate::TAB;
 use device::Device;
+use device::READING_TAIL;
 use words::CONFIG_BASE;
 use words::WORD_LIMIT;
 ghost use mathlib.Core.Path.{_≡_};
@@ -10,9 +11,10 @@ ghost use mathlib.Core.Bool.{true};
 ghost use Prim.Native.Nat.{_+_, _*_, _≤_, _<_};
 ghost use lib.Dec.{eqb};
 ghost use lib.ListN.{length, getD};
-ghost use Rattle.device.specs.Memory.{readingOk};
-ghost use Rattle.sheet.specs.Sheet.{digitsAt, wordsIn, readNumber, readBuffer, firstLine};
-ghost use Rattle.sheet.specs.LawsPlaces.{fieldOk, fieldsOk, lineOk, linesOk, placesOk};
+ghost use Rattle.device.specs.Memory.{readingTail, readingOk};
+ghost use Rattle.device.specs.Record.{mostWords};
+ghost use Rattle.sheet.specs.Sheet.{mostProgramLines, digitsAt, wordsIn, readNumber, readBuffer, firstLine};
+ghost use Rattle.sheet.specs.LawsPlaces.{fieldOk, fieldsOk, sheetLineOk, linesOk, placesOk};
 
 // Reads a sheet into a buffer: 13, 12 or 14 where it cannot, and then the buffer stays.
 pub fn read_sheet(d: Device, text: &[u8], buffer: &mut [u16]) -> u8
@@ -22,7 +24,7 @@ pub fn read_sheet(d: Device, text: &[u8], buffer: &mut [u16]) -> u8
         return 13;
     }
     let program = d.words as usize;
-    if buffer.len() != program + 9 {
+    if buffer.len() != program + READING_TAIL {
         return 12;
     }
     if places_ok(d.id, program, text) {} else {
@@ -53,7 +55,7 @@ const NO_ID: Line1 = Line1 { number: 14, id: 0 };
 
 // Whether a text has the length of a sheet and everything in it stands at its place.
 fn places_ok(id: u16, program: usize, text: &[u8]) -> bool
-    requires { ⌜ program ≤ 8192 ⌝ }
+    requires { ⌜ program ≤ mostWords ⌝ }
     ensures { λ r. ⌜ r ≡ placesOk id program (now (text .entry)) ⌝ }
 {
     let lines = program / 8;
@@ -69,12 +71,12 @@ fn places_ok(id: u16, program: usize, text: &[u8]) -> bool
     if lines_ok(text, lines) {} else {
         return false;
     }
-    line_ok(text, 5 + 45 * lines, CONFIG_BASE, 9)
+    line_ok(text, 5 + 45 * lines, CONFIG_BASE, READING_TAIL)
 }
 
 // The program lines, each with its address.
 fn lines_ok(text: &[u8], lines: usize) -> bool
-    requires { ⌜ (lines ≤ 1024) × (5 + 45 * lines ≤ length (now text)) ⌝ }
+    requires { ⌜ (lines ≤ mostProgramLines) × (5 + 45 * lines ≤ length (now text)) ⌝ }
     ensures { λ r. ⌜ r ≡ linesOk (now (text .entry)) lines ⌝ }
 {
     let mut k = 0;
@@ -90,7 +92,7 @@ fn lines_ok(text: &[u8], lines: usize) -> bool
 // An address, so many words, LF.
 fn line_ok(text: &[u8], at: usize, address: u16, count: usize) -> bool
     requires { ⌜ at + 5 + 5 * count ≤ length (now text) ⌝ }
-    ensures { λ r. ⌜ r ≡ lineOk (now (text .entry)) at address count ⌝ }
+    ensures { λ r. ⌜ r ≡ sheetLineOk (now (text .entry)) at address count ⌝ }
 {
     if numerals::hex::capital_word(text, at) != address as u32 {
         return false;
@@ -140,7 +142,7 @@ fn byte_is(text: &[u8], at: usize, byte: u8) -> bool
 
 // Stores the words of a sheet that was judged.
 fn store(program: usize, text: &[u8], buffer: &mut [u16])
-    requires { ⌜ (program ≤ 8192) × (length (now buffer) ≡ program + 9) × (readingOk program (wordsIn program (now text)) ≡ true) ⌝ }
+    requires { ⌜ (program ≤ mostWords) × (length (now buffer) ≡ program + readingTail) × (readingOk program (wordsIn program (now text)) ≡ true) ⌝ }
     ensures { λ _. ⌜ now (buffer .exit) ≡ wordsIn program (now (text .entry)) ⌝ }
 {
     let mut i = 0;
@@ -152,7 +154,7 @@ fn store(program: usize, text: &[u8], buffer: &mut [u16])
 
 // Where the digits of a word stand.
 fn digits_at(program: usize, i: usize) -> usize
-    requires { ⌜ (program ≤ 8192) × (i < program + 9) ⌝ }
+    requires { ⌜ (program ≤ mostWords) × (i < program + readingTail) ⌝ }
     ensures { λ r. ⌜ r ≡ digitsAt program i ⌝ }
 {
     if i < program {

@@ -3,12 +3,13 @@ use crate::LF;
 use crate::TAB;
 use crate::Written;
 use device::Device;
+use device::READING_TAIL;
 use words::CONFIG_BASE;
 ghost use mathlib.Core.Path.{_≡_};
 ghost use Prim.Native.Nat.{_+_, _*_, _≤_};
 ghost use lib.ListN.{length};
 ghost use lib.Seq.{sets};
-ghost use Rattle.sheet.specs.Sheet.{fields, lineText, programLines, written, writtenText};
+ghost use Rattle.sheet.specs.Sheet.{fields, lineText, programLines, mostProgramLines, written, writtenText};
 
 // Writes the sheet of a reading: 13, 21 or 26 where it cannot, and then nothing is written.
 pub fn write_sheet(d: Device, reading: &[u16], out: &mut [u8]) -> Written
@@ -20,13 +21,13 @@ pub fn write_sheet(d: Device, reading: &[u16], out: &mut [u8]) -> Written
             length: 0,
         };
     }
-    let program = d.words as usize;
-    if words::list::is_words(reading, program + 9) {} else {
+    if device::is_reading(d.words, reading) {} else {
         return Written {
             number: 21,
             length: 0,
         };
     }
+    let program = d.words as usize;
     let lines = program / 8;
     let length = 5 + 45 * lines + 50;
     if out.len() < length {
@@ -38,13 +39,20 @@ pub fn write_sheet(d: Device, reading: &[u16], out: &mut [u8]) -> Written
     numerals::hex::put_word(out, 0, d.id);
     numerals::hex::put(out, 4, LF);
     put_lines(out, lines, reading);
-    put_line(out, 5 + 45 * lines, CONFIG_BASE, 9, program, reading);
+    put_line(
+        out,
+        5 + 45 * lines,
+        CONFIG_BASE,
+        READING_TAIL,
+        program,
+        reading,
+    );
     Written { number: 0, length }
 }
 
 // The program lines, eight words each.
 fn put_lines(out: &mut [u8], lines: usize, l: &[u16])
-    requires { ⌜ (lines ≤ 1024) × (5 + 45 * lines ≤ length (now out)) × (8 * lines ≤ length (now l)) ⌝ }
+    requires { ⌜ (lines ≤ mostProgramLines) × (5 + 45 * lines ≤ length (now out)) × (8 * lines ≤ length (now l)) ⌝ }
     ensures { λ _. ⌜ now (out .exit) ≡ sets (now (out .entry)) 5 (programLines lines 0 (now (l .entry))) ⌝ }
 {
     let mut k = 0;

@@ -18,7 +18,7 @@ use Rattle.words.specs.LawsChoice.{first-holds, second-holds, first-fails, same
 use Rattle.numerals.specs.LawsHex.{within-yes, within-low, within-high}
 use Rattle.numerals.specs.LawsDecimal.{decimal-read, decimal-value}
 use Rattle.device.specs.declared.Device.{Device}
-use Rattle.device.specs.Record.{deviceOk}
+use Rattle.device.specs.Record.{mostWords, deviceOk}
 use Rattle.device.specs.LawsRecord.{Rules, Row, rules, breaks, row}
 use Rattle.numerals.specs.Text.{tab, split}
 use Rattle.numerals.specs.LawsText.{part, part-found, part-last, some-piece}
@@ -97,7 +97,8 @@ module _ (line : List ℕ) where
             module _ (he : e < length line) (f : ℕ) (ff : f ≡ e + 1 + indexOf tab (slice (e + 1) (length line) line)) where
               pub all-five : length line ≤ f → Cut line true a b c d e
               all-five h =
-                  let whole = fifth he ∙ ap (λ s. take a line ∷ part (a + 1) b line ∷ part (b + 1) c line ∷ part (c + 1) d line ∷ part (d + 1) e line ∷ s) (part-last tab line (e + 1) f ff (omega arith) h) in
+                  let whole = fifth he ∙ ap (λ s. take a line ∷ part (a + 1) b line ∷ part (b + 1) c line ∷ part (c + 1) d line ∷ part (d + 1) e line ∷ s)
+                  (part-last tab line (e + 1) f ff (omega arith) h) in
                   record {
                     count = rw whole;
                     tabs = λ t. record { ab = omega arith; bc = omega arith; cd = omega arith; de = omega arith; end = he; fields = whole };
@@ -106,7 +107,8 @@ module _ (line : List ℕ) where
               pub sixth : f < length line → eqb (length (split tab line)) 6 ≡ false
               sixth h =
                   rw (fifth he, part-found tab line (e + 1) f ff (omega arith) h)
-                  (some-piece tab (drop (f + 1) line) (λ s. eqb (suc (suc (suc (suc (suc (suc (length s))))))) 6 ≡ false) (λ p ps. ne-eqb (suc (suc (suc (suc (suc (suc (suc (length ps)))))))) 6 (λ q. omega arith)))
+                  (some-piece tab (drop (f + 1) line) (λ s. eqb (suc (suc (suc (suc (suc (suc (length s))))))) 6 ≡ false)
+                  (λ p ps. ne-eqb (suc (suc (suc (suc (suc (suc (suc (length ps)))))))) 6 (λ q. omega arith)))
 
 -- ---- a device made of numbers
 
@@ -114,7 +116,8 @@ module _ (id words row mask1 mask2 : ℕ) where
   pub not-made : (ok : Bool) (d : Device) → ok ≡ false → (Rules (record { id = id; words = words; row = row; mask1 = mask1; mask2 = mask2 }) → ⊥) → Made id words row mask1 mask2 ok d
   not-made ok d f h = record { kept = f ∙ sym (breaks _ h); made = λ t. absurd (true-not-false t f) }
 
-  pub made-of : deviceOk (record { id = id; words = words; row = row; mask1 = mask1; mask2 = mask2 }) ≡ true → Made id words row mask1 mask2 true (record { id = id; words = words; row = row; mask1 = mask1; mask2 = mask2 })
+  pub made-of : deviceOk (record { id = id; words = words; row = row; mask1 = mask1; mask2 = mask2 }) ≡ true → Made id words row mask1 mask2 true
+      (record { id = id; words = words; row = row; mask1 = mask1; mask2 = mask2 })
   made-of e = record { kept = sym e; made = λ t. refl }
 
 -- a row above 32 breaks the rules
@@ -198,7 +201,7 @@ module _ (f1 f2 f3 f4 f5 : List ℕ) where
   plain = record { id = hexField f1; words = valueOf f2; row = valueOf f3; mask1 = hexField f4; mask2 = hexField f5 }
 
   abbrev numbers : Device
-  numbers = record { id = hexField f1; words = decimalOf 8192 f2; row = decimalOf 32 f3; mask1 = hexField f4; mask2 = hexField f5 }
+  numbers = record { id = hexField f1; words = decimalOf mostWords f2; row = decimalOf 32 f3; mask1 = hexField f4; mask2 = hexField f5 }
 
   abbrev kinds : Bool
   kinds = hexOk f1 && isDecimal f2 && isDecimal f3 && hexOk f4 && hexOk f5 && deviceOk plain
@@ -207,7 +210,7 @@ module _ (f1 f2 f3 f4 f5 : List ℕ) where
   read-rules e =
       let r : Rules numbers = rules numbers e in
       let v : Row (decimalOf 32 f3) = row (decimalOf 32 f3) (r .row-is) in
-      let w = decimal-read 8192 f2 (r .most) in
+      let w = decimal-read mostWords f2 (r .most) in
       let u = decimal-read 32 f3 (v .high) in
       let same : numbers ≡ plain = (λ i. record { id = hexField f1; words = w .1 i; row = u .1 i; mask1 = hexField f4; mask2 = hexField f5 }) in
       let kept : deviceOk plain ≡ true = ap deviceOk (sym same) ∙ e in
@@ -224,7 +227,7 @@ module _ (f1 f2 f3 f4 f5 : List ℕ) where
       let kept : deviceOk plain ≡ true = second-holds k5 (deviceOk plain) e in
       let r : Rules plain = rules plain kept in
       let v : Row (valueOf f3) = row (valueOf f3) (r .row-is) in
-      let w : decimalOf 8192 f2 ≡ valueOf f2 = decimal-value 8192 f2 (second-holds (hexOk f1) (isDecimal f2) e2) (r .most) in
+      let w : decimalOf mostWords f2 ≡ valueOf f2 = decimal-value mostWords f2 (second-holds (hexOk f1) (isDecimal f2) e2) (r .most) in
       let u : decimalOf 32 f3 ≡ valueOf f3 = decimal-value 32 f3 (second-holds (hexOk f1 && isDecimal f2) (isDecimal f3) e3) (v .high) in
       ap deviceOk (λ i. record { id = hexField f1; words = w i; row = u i; mask1 = hexField f4; mask2 = hexField f5 }) ∙ kept
 
@@ -233,7 +236,7 @@ module _ (f1 f2 f3 f4 f5 : List ℕ) where
 
 -- the code's parts put together
 module _ (line f0 f1 f2 f3 f4 f5 : List ℕ) (six : split tab line ≡ f0 ∷ f1 ∷ f2 ∷ f3 ∷ f4 ∷ f5 ∷ []) where
-  line-test : lineOk line ≡ (nameOk f0 && deviceOk (record { id = hexField f1; words = decimalOf 8192 f2; row = decimalOf 32 f3; mask1 = hexField f4; mask2 = hexField f5 }))
+  line-test : lineOk line ≡ (nameOk f0 && deviceOk (record { id = hexField f1; words = decimalOf mostWords f2; row = decimalOf 32 f3; mask1 = hexField f4; mask2 = hexField f5 }))
   unfolding lineOk field deviceOf
   line-test =
       rw six
@@ -244,7 +247,7 @@ module _ (line f0 f1 f2 f3 f4 f5 : List ℕ) (six : split tab line ≡ f0 ∷ f1
   line-no-name h = line-test ∙ first-fails (nameOk f0) _ h
 
   pub line-read : (name : ℕ) (ok : Bool) (d : Device) → nameOk f0 ≡ true → name ≡ length f0
-      → Made (hexField f1) (decimalOf 8192 f2) (decimalOf 32 f3) (hexField f4) (hexField f5) ok d → LineRead line ok name d
+      → Made (hexField f1) (decimalOf mostWords f2) (decimalOf 32 f3) (hexField f4) (hexField f5) ok d → LineRead line ok name d
   line-read name ok d n l m =
       record {
         test = m .kept ∙ (sym (ap (λ t. t && deviceOk (numbers f1 f2 f3 f4 f5)) n) ∙ sym line-test);
@@ -277,7 +280,7 @@ module _ (line : List ℕ) (a b c d e : ℕ) (t : Tabbed line a b c d e) where
   pub fields-read : (named : Bool) (id words row mask1 mask2 : ℕ) (ok : Bool) (dev : Device)
       → named ≡ nameOk (take a line) → named ≡ true
       → id ≡ hexField (take (b - (a + 1)) (drop (a + 1) line))
-      → words ≡ decimalOf 8192 (take (c - (b + 1)) (drop (b + 1) line))
+      → words ≡ decimalOf mostWords (take (c - (b + 1)) (drop (b + 1) line))
       → row ≡ decimalOf 32 (take (d - (c + 1)) (drop (c + 1) line))
       → mask1 ≡ hexField (take (e - (d + 1)) (drop (d + 1) line))
       → mask2 ≡ hexField (take (length line - (e + 1)) (drop (e + 1) line))

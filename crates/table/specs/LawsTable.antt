@@ -18,7 +18,7 @@ use Rattle.numerals.specs.Decimal.{isDecimal}
 use Rattle.device.specs.Record.{deviceOk}
 use Rattle.numerals.specs.LawsText.{part, part-found, part-last, some-piece}
 use Rattle.table.specs.LawsLine.{LineRead}
-use Rattle.table.specs.Table.{butLast, lastOf, field, nameOk, hexOk, deviceOf, lineOk, idOf, linesOf, endsInLf, allLinesOk, hasId, idsOnce, tableOk, tableNumber, lineWith, startOf, refused, given, foundIn}
+use Rattle.table.specs.Table.{butLast, lastOf, field, nameOk, hexOk, deviceOf, lineOk, idOf, tableLines, mostLines, endsInLf, allLinesOk, hasId, idsOnce, tableOk, tableNumber, lineWith, startOf, refused, given, foundIn}
 
 -- ---- all pieces but the last, and the last
 
@@ -33,8 +33,8 @@ module _ (mark : ℕ) (p : List ℕ) (l : List ℕ) where
 
 -- r is where a search for LF from `from` on ended
 module _ (text : List ℕ) (from r : ℕ) (e : r ≡ from + indexOf lf (slice from (length text) text)) (within : from ≤ length text) where
-  pub lines-more : r < length text → linesOf (drop from text) ≡ take (r - from) (drop from text) ∷ linesOf (drop (r + 1) text)
-  unfolding linesOf
+  pub lines-more : r < length text → tableLines (drop from text) ≡ take (r - from) (drop from text) ∷ tableLines (drop (r + 1) text)
+  unfolding tableLines
   lines-more h =
       ap butLast (part-found lf text from r e within h) ∙ (but-last-more lf (part from r text) (drop (r + 1) text) ∙ (unfold part in refl))
 
@@ -44,8 +44,8 @@ module _ (text : List ℕ) (from r : ℕ) (e : r ≡ from + indexOf lf (slice fr
       ap (λ s. eqb (length (lastOf s)) 0) (part-found lf text from r e within h)
       ∙ ap (λ s. eqb (length s) 0) (last-more lf (part from r text) (drop (r + 1) text))
 
-  pub lines-none : length text ≤ r → linesOf (drop from text) ≡ []
-  unfolding linesOf
+  pub lines-none : length text ≤ r → tableLines (drop from text) ≡ []
+  unfolding tableLines
   lines-none h = rw (part-last lf text from r e within h) (unfold butLast in refl)
 
   -- what is left has characters and no LF
@@ -55,8 +55,8 @@ module _ (text : List ℕ) (from r : ℕ) (e : r ≡ from + indexOf lf (slice fr
       rw (part-last lf text from r e within h)
       (unfold lastOf in ne-eqb (length (drop from text)) 0 (λ q. let n : length text - from ≡ 0 = rw length-drop at q in omega arith))
 
-pub lines-end : (text : List ℕ) (from : ℕ) → length text ≤ from → linesOf (drop from text) ≡ []
-unfolding linesOf split butLast
+pub lines-end : (text : List ℕ) (from : ℕ) → length text ≤ from → tableLines (drop from text) ≡ []
+unfolding tableLines split butLast
 lines-end text from h = rw (drop-of-length-le text h)
 
 pub ends-end : (text : List ℕ) (from : ℕ) → length text ≤ from → endsInLf (drop from text) ≡ true
@@ -68,14 +68,14 @@ ends-end text from h = rw (drop-of-length-le text h)
 unfoldable pub leftOk : ℕ → List ℕ → Bool
 leftOk n rest =
     endsInLf rest
-    && leb 1 (n + length (linesOf rest))
-    && leb (n + length (linesOf rest)) 64
-    && allLinesOk (linesOf rest)
-    && idsOnce (linesOf rest)
+    && leb 1 (n + length (tableLines rest))
+    && leb (n + length (tableLines rest)) mostLines
+    && allLinesOk (tableLines rest)
+    && idsOnce (tableLines rest)
 
 pub left-all : (text : List ℕ) → tableOk text ≡ leftOk 0 (drop 0 text)
 unfolding tableOk leftOk
-left-all text = rw (zero-add (length (linesOf text)))
+left-all text = rw (zero-add (length (tableLines text)))
 
 module _ (n : ℕ) (text : List ℕ) (from r : ℕ) (e : r ≡ from + indexOf lf (slice from (length text) text)) (within : from < length text) where
   here : from ≤ length text
@@ -96,35 +96,35 @@ module _ (n : ℕ) (text : List ℕ) (from r : ℕ) (e : r ≡ from + indexOf lf
         l = take (r - from) (drop from text)
 
         rest : List (List ℕ)
-        rest = linesOf (drop (r + 1) text)
+        rest = tableLines (drop (r + 1) text)
 
         chain : Bool
-        chain = endsInLf (drop from text) && leb 1 (n + suc (length rest)) && leb (n + suc (length rest)) 64
+        chain = endsInLf (drop from text) && leb 1 (n + suc (length rest)) && leb (n + suc (length rest)) mostLines
 
-    pub left-twice : hasId (idOf (take (r - from) (drop from text))) (linesOf (drop (r + 1) text)) ≡ true → leftOk n (drop from text) ≡ false
+    pub left-twice : hasId (idOf (take (r - from) (drop from text))) (tableLines (drop (r + 1) text)) ≡ true → leftOk n (drop from text) ≡ false
     unfolding leftOk idsOnce
     left-twice t =
         rw (lines-more text from r e here h, t)
-        (second-fails (endsInLf (drop from text) && leb 1 (n + suc (length rest)) && leb (n + suc (length rest)) 64 && allLinesOk (take (r - from) (drop from text) ∷ rest)) false refl)
+        (second-fails (endsInLf (drop from text) && leb 1 (n + suc (length rest)) && leb (n + suc (length rest)) mostLines && allLinesOk (take (r - from) (drop from text) ∷ rest)) false refl)
       where
         rest : List (List ℕ)
-        rest = linesOf (drop (r + 1) text)
+        rest = tableLines (drop (r + 1) text)
 
-    pub left-on : lineOk (take (r - from) (drop from text)) ≡ true → hasId (idOf (take (r - from) (drop from text))) (linesOf (drop (r + 1) text)) ≡ false
+    pub left-on : lineOk (take (r - from) (drop from text)) ≡ true → hasId (idOf (take (r - from) (drop from text))) (tableLines (drop (r + 1) text)) ≡ false
         → leftOk n (drop from text) ≡ leftOk (n + 1) (drop (r + 1) text)
     unfolding leftOk allLinesOk idsOnce
     left-on t f =
-        let count : n + suc (length (linesOf (drop (r + 1) text))) ≡ n + 1 + length (linesOf (drop (r + 1) text)) = omega arith in
+        let count : n + suc (length (tableLines (drop (r + 1) text))) ≡ n + 1 + length (tableLines (drop (r + 1) text)) = omega arith in
         rw (lines-more text from r e here h, ends-more text from r e here h, t, f, count)
 
 -- more than 64 lines
-pub left-many : (n : ℕ) (rest : List ℕ) → 64 < n → leftOk n rest ≡ false
+pub left-many : (n : ℕ) (rest : List ℕ) → mostLines < n → leftOk n rest ≡ false
 unfolding leftOk
 left-many n rest h =
-    rw (lt-leb (n + length (linesOf rest)) 64 (omega arith))
-    (first-fails (endsInLf rest && leb 1 (n + length (linesOf rest)) && false && allLinesOk (linesOf rest)) (idsOnce (linesOf rest))
-    (first-fails (endsInLf rest && leb 1 (n + length (linesOf rest)) && false) (allLinesOk (linesOf rest))
-    (second-fails (endsInLf rest && leb 1 (n + length (linesOf rest))) false refl)))
+    rw (lt-leb (n + length (tableLines rest)) mostLines (omega arith))
+    (first-fails (endsInLf rest && leb 1 (n + length (tableLines rest)) && false && allLinesOk (tableLines rest)) (idsOnce (tableLines rest))
+    (first-fails (endsInLf rest && leb 1 (n + length (tableLines rest)) && false) (allLinesOk (tableLines rest))
+    (second-fails (endsInLf rest && leb 1 (n + length (tableLines rest))) false refl)))
 
 -- at the text's end
 module _ (n : ℕ) (text : List ℕ) (from : ℕ) (done : length text ≤ from) where
@@ -133,9 +133,9 @@ module _ (n : ℕ) (text : List ℕ) (from : ℕ) (done : length text ≤ from) 
   left-none h =
       rw (ends-end text from done, lines-end text from done, add-zero n, lt-leb 1 n h)
 
-  pub left-some : 1 ≤ n → n ≤ 64 → leftOk n (drop from text) ≡ true
+  pub left-some : 1 ≤ n → n ≤ mostLines → leftOk n (drop from text) ≡ true
   unfolding leftOk allLinesOk idsOnce
-  left-some p q = rw (ends-end text from done, lines-end text from done, add-zero n, le-leb 1 n p, le-leb n 64 q)
+  left-some p q = rw (ends-end text from done, lines-end text from done, add-zero n, le-leb 1 n p, le-leb n mostLines q)
 
 -- ---- the answers
 
@@ -172,15 +172,15 @@ module _ (text : List ℕ) where
 
 -- the lines from `from` on still hold what is looked for
 pub record Ahead (id : ℕ) (text : List ℕ) (from : ℕ) : Type 0 where
-  pub has : hasId id (linesOf text) ≡ hasId id (linesOf (drop from text))
-  pub start : startOf id (linesOf text) ≡ from + startOf id (linesOf (drop from text))
-  pub line : lineWith id (linesOf text) ≡ lineWith id (linesOf (drop from text))
+  pub has : hasId id (tableLines text) ≡ hasId id (tableLines (drop from text))
+  pub start : startOf id (tableLines text) ≡ from + startOf id (tableLines (drop from text))
+  pub line : lineWith id (tableLines text) ≡ lineWith id (tableLines (drop from text))
 
 -- what a search answers: whether a line gives the ID and, if one does, where the first of them stands
 pub record Sought (id : ℕ) (text : List ℕ) (found : Bool) (at stop : ℕ) : Type 0 where
-  pub has : found ≡ hasId id (linesOf text)
-  pub start : found ≡ true → at ≡ startOf id (linesOf text)
-  pub line : found ≡ true → take (stop - at) (drop at text) ≡ lineWith id (linesOf text)
+  pub has : found ≡ hasId id (tableLines text)
+  pub start : found ≡ true → at ≡ startOf id (tableLines text)
+  pub line : found ≡ true → take (stop - at) (drop at text) ≡ lineWith id (tableLines text)
   pub order : at ≤ stop
   pub inside : stop ≤ length text
 
@@ -212,7 +212,7 @@ module _ (id : ℕ) (l : List ℕ) (ls : List (List ℕ)) where
     line-later = rw (ne-eqb (idOf l) id n)
 
 pub ahead-all : (id : ℕ) (text : List ℕ) → Ahead id text 0
-ahead-all id text = record { has = refl; start = sym (zero-add (startOf id (linesOf text))); line = refl }
+ahead-all id text = record { has = refl; start = sym (zero-add (startOf id (tableLines text))); line = refl }
 
 module _ (id : ℕ) (text : List ℕ) (from r : ℕ) (e : r ≡ from + indexOf lf (slice from (length text) text)) (within : from < length text) (so : Ahead id text from) where
   here₂ : from ≤ length text
@@ -233,12 +233,12 @@ module _ (id : ℕ) (text : List ℕ) (from r : ℕ) (e : r ≡ from + indexOf l
     l = take (r - from) (drop from text)
 
     ls : List (List ℕ)
-    ls = linesOf (drop (r + 1) text)
+    ls = tableLines (drop (r + 1) text)
 
     pub sought-here : given ≡ id → Sought id text true from r
     unfolding l ls
     sought-here q =
-        let more : linesOf (drop from text) ≡ l ∷ ls = lines-more text from r e here₂ h in
+        let more : tableLines (drop from text) ≡ l ∷ ls = lines-more text from r e here₂ h in
         let same : idOf l ≡ id = sym g ∙ q in
         record {
           has = sym (so .has ∙ (ap (hasId id) more ∙ has-here id l ls same));
@@ -251,7 +251,7 @@ module _ (id : ℕ) (text : List ℕ) (from r : ℕ) (e : r ≡ from + indexOf l
     pub ahead-on : (given ≡ id → ⊥) → Ahead id text (r + 1)
     unfolding l ls
     ahead-on q =
-        let more : linesOf (drop from text) ≡ l ∷ ls = lines-more text from r e here₂ h in
+        let more : tableLines (drop from text) ≡ l ∷ ls = lines-more text from r e here₂ h in
         let other : idOf l ≡ id → ⊥ = λ z. q (g ∙ z) in
         let long : length l ≡ r - from = length-take-le (r - from) (drop from text) (rw length-drop (omega arith)) in
         let sum : from + (length l + 1 + startOf id ls) ≡ r + 1 + startOf id ls = omega arith in
@@ -283,11 +283,11 @@ line-with-ok id (l ∷ ls) a h = by (eqb (idOf l) id) h (line-with-ok id ls (sec
     by true q ih = unfold pick in first-holds (lineOk l) (allLinesOk ls) a
     by false q ih = unfold pick in ih q
 
-lines-ok : (text : List ℕ) → tableOk text ≡ true → allLinesOk (linesOf text) ≡ true
+lines-ok : (text : List ℕ) → tableOk text ≡ true → allLinesOk (tableLines text) ≡ true
 unfolding tableOk
 lines-ok text e =
-    second-holds (endsInLf text && leb 1 (length (linesOf text)) && leb (length (linesOf text)) 64) (allLinesOk (linesOf text))
-    (first-holds (endsInLf text && leb 1 (length (linesOf text)) && leb (length (linesOf text)) 64 && allLinesOk (linesOf text)) (idsOnce (linesOf text)) e)
+    second-holds (endsInLf text && leb 1 (length (tableLines text)) && leb (length (tableLines text)) mostLines) (allLinesOk (tableLines text))
+    (first-holds (endsInLf text && leb 1 (length (tableLines text)) && leb (length (tableLines text)) mostLines && allLinesOk (tableLines text)) (idsOnce (tableLines text)) e)
 
 module _ (text : List ℕ) (id : ℕ) where
   pub found-bad : tableOk text ≡ false → foundIn text id ≡ refused 15
@@ -297,21 +297,21 @@ module _ (text : List ℕ) (id : ℕ) where
   pub found-none : tableOk text ≡ true → (found : Bool) (at stop : ℕ) → Sought id text found at stop → found ≡ false → foundIn text id ≡ refused 16
   unfolding foundIn
   found-none t found at stop s f =
-      pick-true (tableOk text) _ _ t ∙ pick-false (hasId id (linesOf text)) _ _ (sym (s .has) ∙ f)
+      pick-true (tableOk text) _ _ t ∙ pick-false (hasId id (tableLines text)) _ _ (sym (s .has) ∙ f)
 
   pub found-here : tableOk text ≡ true → (found : Bool) (at stop : ℕ) → Sought id text found at stop → found ≡ true
       → (ok : Bool) (name : ℕ) (d : Device) → LineRead (take (stop - at) (drop at text)) ok name d
       → record { number = 0; device = d; «name_at» = at; «name_len» = name } ≡ foundIn text id
   unfolding foundIn given
   found-here t found at stop s y ok name d l =
-      let has : hasId id (linesOf text) ≡ true = sym (s .has) ∙ y in
-      let sound : lineOk (lineWith id (linesOf text)) ≡ true = line-with-ok id (linesOf text) (lines-ok text t) has in
+      let has : hasId id (tableLines text) ≡ true = sym (s .has) ∙ y in
+      let sound : lineOk (lineWith id (tableLines text)) ≡ true = line-with-ok id (tableLines text) (lines-ok text t) has in
       let fine : ok ≡ true = l .test ∙ (ap lineOk (s .line y) ∙ sound) in
-      let dev : d ≡ deviceOf (lineWith id (linesOf text)) = l .device fine ∙ ap deviceOf (s .line y) in
-      let nam : name ≡ length (field 0 (lineWith id (linesOf text))) = l .named fine ∙ ap (λ x. length (field 0 x)) (s .line y) in
-      let start : at ≡ startOf id (linesOf text) = s .start y in
+      let dev : d ≡ deviceOf (lineWith id (tableLines text)) = l .device fine ∙ ap deviceOf (s .line y) in
+      let nam : name ≡ length (field 0 (lineWith id (tableLines text))) = l .named fine ∙ ap (λ x. length (field 0 x)) (s .line y) in
+      let start : at ≡ startOf id (tableLines text) = s .start y in
       (λ i. record { number = 0; device = dev i; «name_at» = start i; «name_len» = nam i })
-      ∙ sym (pick-true (tableOk text) _ _ t ∙ pick-true (hasId id (linesOf text)) _ _ has)
+      ∙ sym (pick-true (tableOk text) _ _ t ∙ pick-true (hasId id (tableLines text)) _ _ has)
 
 -- the device of a sound line keeps the rules of a record
 line-device : (line : List ℕ) → lineOk line ≡ true → deviceOk (deviceOf line) ≡ true
@@ -322,12 +322,12 @@ line-device line e =
     (deviceOk (deviceOf line)) e
 
 -- and so does each record that is found
-pub found-sound : (text : List ℕ) (id : ℕ) → tableOk text ≡ true → hasId id (linesOf text) ≡ true → deviceOk (foundIn text id .device) ≡ true
+pub found-sound : (text : List ℕ) (id : ℕ) → tableOk text ≡ true → hasId id (tableLines text) ≡ true → deviceOk (foundIn text id .device) ≡ true
 unfolding foundIn
 found-sound text id t has =
-    let same : foundIn text id ≡ given (startOf id (linesOf text)) (lineWith id (linesOf text)) = pick-true (tableOk text) _ _ t ∙ pick-true (hasId id (linesOf text)) _ _ has in
+    let same : foundIn text id ≡ given (startOf id (tableLines text)) (lineWith id (tableLines text)) = pick-true (tableOk text) _ _ t ∙ pick-true (hasId id (tableLines text)) _ _ has in
     ap (λ x. deviceOk (x .device)) same
-    ∙ (unfold given in line-device (lineWith id (linesOf text)) (line-with-ok id (linesOf text) (lines-ok text t) has))
+    ∙ (unfold given in line-device (lineWith id (tableLines text)) (line-with-ok id (tableLines text) (lines-ok text t) has))
 
 -- ---- one turn of the table's test, by what the code's parts answer
 
@@ -344,8 +344,8 @@ module _ (n : ℕ) (text : List ℕ) (from r : ℕ) (e : r ≡ from + indexOf lf
     id-is : d .id ≡ idOf (take (r - from) (drop from text))
     id-is = ap (λ x. x .id) (l .device y) ∙ (unfold idOf deviceOf in refl)
 
-    has-is : found ≡ hasId (idOf (take (r - from) (drop from text))) (linesOf (drop (r + 1) text))
-    has-is = s .has ∙ (ap (λ x. hasId (d .id) (linesOf x)) (rest-of text (r + 1)) ∙ ap (λ x. hasId x (linesOf (drop (r + 1) text))) id-is)
+    has-is : found ≡ hasId (idOf (take (r - from) (drop from text))) (tableLines (drop (r + 1) text))
+    has-is = s .has ∙ (ap (λ x. hasId (d .id) (tableLines x)) (rest-of text (r + 1)) ∙ ap (λ x. hasId x (tableLines (drop (r + 1) text))) id-is)
 
     pub turn-twice : found ≡ true → leftOk n (drop from text) ≡ false
     turn-twice t = left-twice n text from r e within h (sym has-is ∙ t)
@@ -355,4 +355,4 @@ module _ (n : ℕ) (text : List ℕ) (from r : ℕ) (e : r ≡ from + indexOf lf
 
 -- a table without a line
 pub table-empty : 15 ≡ tableNumber []
-table-empty = table-bad [] (unfold tableOk endsInLf lastOf linesOf butLast split in refl)
+table-empty = table-bad [] (unfold tableOk endsInLf lastOf tableLines butLast split in refl)

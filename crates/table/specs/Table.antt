@@ -4,7 +4,7 @@ use mathlib.Core.Bool.{Bool, true, false, _&&_, _||_, not}
 use mathlib.Core.List.{List, [], _∷_}
 use lib.Dec.{ltb, leb, eqb}
 use lib.ListN.{length, getD}
-use Rattle.words.specs.Choice.{pick}
+use Rattle.words.specs.Choice.{pick, unless}
 use Rattle.numerals.specs.Text.{tab, lf, split}
 use Rattle.numerals.specs.Hex.{within, capitalOf, wordBy}
 use Rattle.numerals.specs.Decimal.{isDecimal, valueOf}
@@ -78,8 +78,8 @@ idOf line = hexField (field 1 line)
 -- ---- the table
 
 -- the lines of a text, each without the LF that ends it
-unfoldable pub linesOf : List ℕ → List (List ℕ)
-linesOf text = butLast (split lf text)
+unfoldable pub tableLines : List ℕ → List (List ℕ)
+tableLines text = butLast (split lf text)
 
 -- each line ends in LF: nothing follows the last one
 unfoldable pub endsInLf : List ℕ → Bool
@@ -99,18 +99,22 @@ unfoldable pub idsOnce : List (List ℕ) → Bool
 idsOnce [] = true
 idsOnce (l ∷ ls) = not (hasId (idOf l) ls) && idsOnce ls
 
+-- the most lines
+abbrev pub mostLines : ℕ
+mostLines = 64
+
 -- each line ends in LF, 1 to 64 lines, each a device's, no ID twice
 unfoldable pub tableOk : List ℕ → Bool
 tableOk text =
     endsInLf text
-    && leb 1 (length (linesOf text))
-    && leb (length (linesOf text)) 64
-    && allLinesOk (linesOf text)
-    && idsOnce (linesOf text)
+    && leb 1 (length (tableLines text))
+    && leb (length (tableLines text)) mostLines
+    && allLinesOk (tableLines text)
+    && idsOnce (tableLines text)
 
 -- what the call that judges a table answers
 unfoldable pub tableNumber : List ℕ → ℕ
-tableNumber text = pick (tableOk text) 0 15
+tableNumber text = unless (tableOk text) 15 0
 
 -- ---- the record of an ID
 
@@ -135,6 +139,6 @@ given at line = record { number = 0; device = deviceOf line; «name_at» = at; �
 -- what the call that finds an ID's record answers
 unfoldable pub foundIn : List ℕ → ℕ → Found
 foundIn text id =
-    pick (tableOk text)
-    (pick (hasId id (linesOf text)) (given (startOf id (linesOf text)) (lineWith id (linesOf text))) (refused 16))
-    (refused 15)
+    unless (tableOk text) (refused 15)
+    (unless (hasId id (tableLines text)) (refused 16)
+    (given (startOf id (tableLines text)) (lineWith id (tableLines text))))

@@ -165,7 +165,7 @@ fn device_of(id: u32, words: u64, row: u64, mask1: u32, mask2: u32) -> Maybe
     if 0x4000 <= id {
         return no_device();
     }
-    if 8192 < words {
+    if (MOST_WORDS as u64) < words {
         return no_device();
     }
     if 32 < row {

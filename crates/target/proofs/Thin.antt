@@ -63,7 +63,8 @@ thin = record {
   locals =
       local (tyInt w8) valueLocal ∷ local (tyRef (named 0) mut (pointee (R.the-row .written))) valueLocal ∷ local D′.mir valueLocal ∷ local (tyInt w8) valueLocal ∷ local (tyInt w16) valueLocal ∷
       local (sliceTy (tyRef (named 1) mut (tyInt w16))) valueLocal ∷ local (sliceTy (tyRef (named 2) mut (tyInt w16))) valueLocal ∷ local S′.mir valueLocal ∷ local R′.mir valueLocal ∷
-      local (tyRef erased mut (tyInt w16)) valueLocal ∷ local (sliceTy (tyRef erased mut (tyInt w16))) valueLocal ∷ local (tyRef erased mut (tyInt w16)) valueLocal ∷ local (sliceTy (tyRef erased mut (tyInt w16))) valueLocal ∷ [];
+      local (tyRef erased mut (tyInt w16)) valueLocal ∷ local (sliceTy (tyRef erased mut (tyInt w16))) valueLocal ∷ local (tyRef erased mut (tyInt w16)) valueLocal ∷ local
+      (sliceTy (tyRef erased mut (tyInt w16))) valueLocal ∷ [];
   body =
       seq (assign (place 8 []) (rvOpd (copy (place 1 (deref R′.mir ∷ [])))))
       (seq (assign (place 9 []) (addrOf (place 5 (field 0 ∷ deref (tyInt w16) ∷ []))))
@@ -78,7 +79,10 @@ thin = record {
 
 -- the registers' borrow is still owned at exit; the slices were given up to `step`
 abbrev stayed : Stays (step-on.ended .signature .params) (step-on.ended .kept)
-stayed = (stay-ref (0 ∷ []) tt (plain (λ _. R.the-row)), (stay-none (λ _. D.the-row) yes, (stay-none (λ _. u8) yes, (stay-none (λ _. u16) yes, (gave-slice (1 ∷ []) tt (plain (λ _. u16)), (gave-slice (2 ∷ []) tt (plain (λ _. u16)), tt))))))
+stayed = (
+  stay-ref (0 ∷ []) tt (plain (λ _. R.the-row)),
+  (stay-none (λ _. D.the-row) yes, (stay-none (λ _. u8) yes, (stay-none (λ _. u16) yes, (gave-slice (1 ∷ []) tt (plain (λ _. u16)), (gave-slice (2 ∷ []) tt (plain (λ _. u16)), tt))))),
+)
 
 -- the contract that the proof cites
 abbrev pub Step : {M : Type 1} (𝓤 : URA M) (H : Heap 𝓤) (A : Atoms 𝓤) (at-mem : Memory → SProp 𝓤) (run : Routine → Fun 𝓤) → Contract 𝓤
@@ -98,7 +102,8 @@ number-fits r w r-is = LL.owed S.the-type S′.the-laws r (w ∷ []) r-is .0 .1
 registers-are : (r : Stepped) (w : Val) → Is S.the-row r (w ∷ []) → Is R.the-row (r .registers) (registers-val (r .registers) ∷ [])
 registers-are r w r-is = LL.owed S.the-type S′.the-laws r (w ∷ []) r-is .1 .0
 
-module _ {M : Type 1} (𝓤 : URA M) (H : Heap 𝓤) (A : Atoms 𝓤) (W : Given 𝓤 H A) (at-mem : Memory → SProp 𝓤) (run : Routine → Fun 𝓤) (κ κ₁ κ₂ : Lft) (q q₁ q₂ : Share) (b o : ℕ) (γ : GName) (h : Registers) (d : Device) (d-is : Is D.the-row d (device-val d ∷ []))
+module _ {M : Type 1} (𝓤 : URA M) (H : Heap 𝓤) (A : Atoms 𝓤) (W : Given 𝓤 H A) (at-mem : Memory → SProp 𝓤) (run : Routine → Fun 𝓤) (κ κ₁ κ₂ : Lft) (q q₁ q₂ : Share)
+    (b o : ℕ) (γ : GName) (h : Registers) (d : Device) (d-is : Is D.the-row d (device-val d ∷ []))
     (c p : ℕ) (c-fits : c < 2 ^ 8) (p-fits : p < 2 ^ 16) (b₁ o₁ : ℕ) (γ₁ : GName) (ws : List ℕ) (b₂ o₂ : ℕ) (γ₂ : GName) (cs : List ℕ) where
   abbrev x : RefT Registers
   x = record { ptr = (b, o); name = γ; now = h }
@@ -147,29 +152,41 @@ module _ {M : Type 1} (𝓤 : URA M) (H : Heap 𝓤) (A : Atoms 𝓤) (W : Given
 
   -- the slices and their tokens are all that `step` asks beside plain data
   goes-step : Is R.the-row h (registers-val h ∷ [])
-      → ent 𝓤 (sep 𝓤 (sep 𝓤 (A .lft κ₁ q₁) (sep 𝓤 (A .lft κ₂ q₂) (sem 𝓤 H A ftrue))) (sep 𝓤 (sem 𝓤 H A (MutSlice (named 1) κ₁ u16 .own x₁ (s₁ ∷ []))) (sem 𝓤 H A (MutSlice (named 2) κ₂ u16 .own x₂ (s₂ ∷ []))))) (Step 𝓤 H A at-mem run .pre to-step)
+      → ent 𝓤 (sep 𝓤 (sep 𝓤 (A .lft κ₁ q₁) (sep 𝓤 (A .lft κ₂ q₂) (sem 𝓤 H A ftrue)))
+      (sep 𝓤 (sem 𝓤 H A (MutSlice (named 1) κ₁ u16 .own x₁ (s₁ ∷ []))) (sem 𝓤 H A (MutSlice (named 2) κ₂ u16 .own x₂ (s₂ ∷ []))))) (Step 𝓤 H A at-mem run .pre to-step)
   goes-step h-is =
       qed W ((‵ (flft κ₁ q₁) ⊛ ‵ (flft κ₂ q₂) ⊛ ‵ ftrue) ∷ ‵ (MutSlice (named 1) κ₁ u16 .own x₁ (s₁ ∷ [])) ∷ ‵ (MutSlice (named 2) κ₂ u16 .own x₂ (s₂ ∷ [])) ∷ []) ∵
-      nothing ! $ move ! (3 ∷ 0 ∷ []) $ fjoin ! $ move ! (2 ∷ 0 ∷ []) $ fjoin ! $ owned ! u16 (Is u16) (uint-makes 𝓤 H A W w16) p _ (refl, p-fits) $ fjoin ! $ owned ! u8 (Is u8) (uint-makes 𝓤 H A W w8) c _ (refl, c-fits) $ fjoin ! $
-      owned ! R.the-row (Is R.the-row) (LL.makes R.the-type R′.the-plain 𝓤 H A) h _ h-is $ fjoin ! $ owned ! D.the-row (Is D.the-row) (LL.makes D.the-type D′.the-plain 𝓤 H A) d _ d-is $ fjoin ! $ move ! (1 ∷ 0 ∷ []) $ join ! $ frame ! $ done !
+      nothing ! $ move ! (3 ∷ 0 ∷ []) $ fjoin ! $ move ! (2 ∷ 0 ∷ []) $ fjoin ! $ owned ! u16 (Is u16) (uint-makes 𝓤 H A W w16) p _ (refl, p-fits) $ fjoin ! $ owned ! u8
+      (Is u8) (uint-makes 𝓤 H A W w8) c _ (refl, c-fits) $ fjoin ! $
+      owned ! R.the-row (Is R.the-row) (LL.makes R.the-type R′.the-plain 𝓤 H A) h _ h-is $ fjoin ! $ owned ! D.the-row (Is D.the-row)
+      (LL.makes D.the-type D′.the-plain 𝓤 H A) d _ d-is $ fjoin ! $ move ! (1 ∷ 0 ∷ []) $ join ! $ frame ! $ done !
 
   -- what is had at the end is what the contract says of the answer, the registers and the two lists
   exits : (r : Stepped) (zs₁ zs₂ : List ℕ) → r .number < 2 ^ 8 → length zs₁ ≡ length ws → length zs₂ ≡ length cs → Steps d h c p ws cs (r .number) (r .registers) zs₁ zs₂
-      → ent 𝓤 (⋆ 𝓤 H A (‵ (fobs γ (R.the-row .coded .code (r .registers))) ∷ ‵ (fbor κ (Body (mem R.the-row) b o γ)) ∷ ‵ (flft κ q) ∷ (‵ (flft κ₁ q₁) ⊛ ‵ (flft κ₂ q₂) ⊛ ‵ ftrue) ∷ ‵ (finally u16 γ₁ zs₁) ∷ ‵ (finally u16 γ₂ zs₂) ∷ [])) (Post (vint w8 (r .number)))
+      → ent 𝓤 (⋆ 𝓤 H A (‵ (fobs γ (R.the-row .coded .code (r .registers))) ∷ ‵ (fbor κ (Body (mem R.the-row) b o γ)) ∷ ‵ (flft κ q) ∷
+      (‵ (flft κ₁ q₁) ⊛ ‵ (flft κ₂ q₂) ⊛ ‵ ftrue) ∷ ‵ (finally u16 γ₁ zs₁) ∷ ‵ (finally u16 γ₂ zs₂) ∷ [])) (Post (vint w8 (r .number)))
   exits r zs₁ zs₂ fits l₁ l₂ e =
-      qed W (‵ (fobs γ (R.the-row .coded .code (r .registers))) ∷ ‵ (fbor κ (Body (mem R.the-row) b o γ)) ∷ ‵ (flft κ q) ∷ (‵ (flft κ₁ q₁) ⊛ ‵ (flft κ₂ q₂) ⊛ ‵ ftrue) ∷ ‵ (finally u16 γ₁ zs₁) ∷ ‵ (finally u16 γ₂ zs₂) ∷ []) ∵
-      suffices ! _ (ends-at 𝓤 H A step-on.ended stayed (step-on.clauses 𝓤 H A at-mem run) W (((κ, (κ₁, (κ₂, tt))), (q, (q₁, (q₂, tt))), tt, a, vals), tt) (vint w8 (r .number)) (r .number) (r .registers, (tt, (tt, (tt, (zs₁, (zs₂, tt)))))) (tt, (tt, (tt, (tt, (l₁, (l₂, tt))))))) $ says ! e $
+      qed W (‵ (fobs γ (R.the-row .coded .code (r .registers))) ∷ ‵ (fbor κ (Body (mem R.the-row) b o γ)) ∷ ‵ (flft κ q) ∷ (‵ (flft κ₁ q₁) ⊛ ‵ (flft κ₂ q₂) ⊛ ‵ ftrue) ∷ ‵
+      (finally u16 γ₁ zs₁) ∷ ‵ (finally u16 γ₂ zs₂) ∷ []) ∵
+      suffices ! _ (ends-at 𝓤 H A step-on.ended stayed (step-on.clauses 𝓤 H A at-mem run) W (((κ, (κ₁, (κ₂, tt))), (q, (q₁, (q₂, tt))), tt, a, vals), tt) (vint w8 (r .number))
+      (r .number) (r .registers, (tt, (tt, (tt, (zs₁, (zs₂, tt)))))) (tt, (tt, (tt, (tt, (l₁, (l₂, tt))))))) $ says ! e $
       move ! (2 ∷ 3 ∷ []) $ join ! $ frame ! $ feqI ! (List Val) (vptr b o ∷ []) (vptr b o ∷ []) refl $ fjoin3 ! $
-      nothing ! $ move ! (3 ∷ 0 ∷ []) $ fjoin ! $ move ! (2 ∷ 0 ∷ []) $ fjoin ! $ owned ! u16 (Is u16) (uint-makes 𝓤 H A W w16) p _ (refl, p-fits) $ fjoin ! $ owned ! u8 (Is u8) (uint-makes 𝓤 H A W w8) c _ (refl, c-fits) $ fjoin ! $
-      owned ! D.the-row (Is D.the-row) (LL.makes D.the-type D′.the-plain 𝓤 H A) d _ d-is $ fjoin ! $ move ! (1 ∷ 0 ∷ []) $ fjoin ! $ owned ! u8 (Is u8) (uint-makes 𝓤 H A W w8) (r .number) _ (refl, fits) $ move ! (1 ∷ 0 ∷ []) $ done !
+      nothing ! $ move ! (3 ∷ 0 ∷ []) $ fjoin ! $ move ! (2 ∷ 0 ∷ []) $ fjoin ! $ owned ! u16 (Is u16) (uint-makes 𝓤 H A W w16) p _ (refl, p-fits) $ fjoin ! $ owned ! u8
+      (Is u8) (uint-makes 𝓤 H A W w8) c _ (refl, c-fits) $ fjoin ! $
+      owned ! D.the-row (Is D.the-row) (LL.makes D.the-type D′.the-plain 𝓤 H A) d _ d-is $ fjoin ! $ move ! (1 ∷ 0 ∷ []) $ fjoin ! $ owned ! u8 (Is u8) (uint-makes 𝓤 H A W w8)
+      (r .number) _ (refl, fits) $ move ! (1 ∷ 0 ∷ []) $ done !
 
   module _ (C : Calls 𝓤 H) (Λ : Loops 𝓤 H) (fm : FmC 𝓤 H (W .laws) C) (known : Triple 𝓤 (C #target·single·step) (Step 𝓤 H A at-mem run)) where
-    walk : Room u16 (length ws) → Room u16 (length cs) → ent 𝓤 (onEntry 𝓤 H A step-on.signature (κ, (κ₁, (κ₂, tt))) (q, (q₁, (q₂, tt))) a vals) (WpFn 𝓤 H C Λ thin (vptr b o ∷ device-val d ∷ vint w8 c ∷ vint w16 p ∷ s₁ ∷ s₂ ∷ []) Post)
+    walk : Room u16 (length ws) → Room u16 (length cs)
+        → ent 𝓤 (onEntry 𝓤 H A step-on.signature (κ, (κ₁, (κ₂, tt))) (q, (q₁, (q₂, tt))) a vals) (WpFn 𝓤 H C Λ thin (vptr b o ∷ device-val d ∷ vint w8 c ∷ vint w16 p ∷ s₁ ∷ s₂ ∷ []) Post)
     walk room₁ room₂ =
-        qed W ((‵ (flft κ q) ⊛ ‵ (flft κ₁ q₁) ⊛ ‵ (flft κ₂ q₂) ⊛ ‵ ftrue) ∷ ‵ (owns (MutRef (named 0) κ R.the-row ∷ D.the-row ∷ u8 ∷ u16 ∷ MutSlice (named 1) κ₁ u16 ∷ MutSlice (named 2) κ₂ u16 ∷ []) a vals) ∷ []) ∵
+        qed W ((‵ (flft κ q) ⊛ ‵ (flft κ₁ q₁) ⊛ ‵ (flft κ₂ q₂) ⊛ ‵ ftrue) ∷ ‵
+        (owns (MutRef (named 0) κ R.the-row ∷ D.the-row ∷ u8 ∷ u16 ∷ MutSlice (named 1) κ₁ u16 ∷ MutSlice (named 2) κ₂ u16 ∷ []) a vals) ∷ []) ∵
         enter ! C Λ thin (vptr b o ∷ device-val d ∷ vint w8 c ∷ vint w16 p ∷ s₁ ∷ s₂ ∷ []) _ $
-        alloc1 ! (λ l₀. alloc1 ! (λ l₁. alloc1 ! (λ l₂. alloc1 ! (λ l₃. alloc1 ! (λ l₄. alloc1 ! (λ l₅. alloc1 ! (λ l₆. alloc1 ! (λ l₇. alloc1 ! (λ l₈. alloc1 ! (λ l₉. alloc1 ! (λ l₁₀. alloc1 ! (λ l₁₁. alloc1 ! (λ l₁₂. alloc0 ! $ params1 ! $
-        pass1 ! (init ! 22 refl (tt, tt)) $ pass1 ! (init ! 20 refl (LL.lawful D.the-type D′.the-laws 𝓤 H A W .typed d _ d-is .0)) $ pass1 ! (init ! 18 refl (tt, record { fits = c-fits })) $ pass1 ! (init ! 16 refl (tt, record { fits = p-fits })) $
+        alloc1 ! (λ l₀. alloc1 ! (λ l₁. alloc1 ! (λ l₂. alloc1 !
+        (λ l₃. alloc1 ! (λ l₄. alloc1 ! (λ l₅. alloc1 ! (λ l₆. alloc1 ! (λ l₇. alloc1 ! (λ l₈. alloc1 ! (λ l₉. alloc1 ! (λ l₁₀. alloc1 ! (λ l₁₁. alloc1 ! (λ l₁₂. alloc0 ! $ params1 ! $
+        pass1 ! (init ! 22 refl (tt, tt)) $ pass1 ! (init ! 20 refl (LL.lawful D.the-type D′.the-laws 𝓤 H A W .typed d _ d-is .0)) $ pass1 !
+        (init ! 18 refl (tt, record { fits = c-fits })) $ pass1 ! (init ! 16 refl (tt, record { fits = p-fits })) $
         pass1 ! (init ! 14 refl (tt, (tt, (record { fits = room₁ .0 }, tt)))) $ pass1 ! (init ! 12 refl (tt, (tt, (record { fits = room₂ .0 }, tt)))) $ pass0 ! $
         -- [_12; …; _0; …; the tokens; what the parameters own]
         move ! (27 ∷ []) $ fsplit ! $ move ! (1 ∷ []) $ fsplit ! $ drop ! $ fsplit ! $ drop ! $ fsplit ! $ drop ! $ fsplit ! $ move ! (1 ∷ []) $ fsplit ! $ move ! (1 ∷ []) $ drop ! $
@@ -180,37 +197,57 @@ module _ {M : Type 1} (𝓤 : URA M) (H : Heap 𝓤) (A : Atoms 𝓤) (W : Given
         -- [the registers' cell; the open borrow; obs; auth; the slices' tokens; what cells own; what words own; _12; …; _0; …]
         assigns ! (of-opd ! (load ! (from ! (hop ! (look ! 29 refl) (stop !))) (look-raw ! 0 refl))) (from ! (stop !)) (init ! 15 refl (LL.lawful R.the-type R′.the-laws 𝓤 H A W .typed h _ h-is .0)) $
         assigns ! (addr ! (from ! (fld ! refl (hop ! (look-in ! 21 (sub ! 0 refl (whole !))) (stop !))))) (from ! (stop !)) (init ! 13 refl (tt, tt)) $
-        assigns ! (agg ! (and-then ! (load ! (from ! (stop !)) (look ! 13 refl)) (and-then ! (load ! (from ! (fld ! refl (stop !))) (look-in ! 21 (sub ! 1 refl (whole !)))) (no-more !)))) (from ! (stop !)) (init ! 11 refl (tt, (tt, (record { fits = room₁ .0 }, tt)))) $
+        assigns ! (agg ! (and-then ! (load ! (from ! (stop !)) (look ! 13 refl))
+        (and-then ! (load ! (from ! (fld ! refl (stop !))) (look-in ! 21 (sub ! 1 refl (whole !)))) (no-more !)))) (from ! (stop !)) (init ! 11 refl (tt, (tt, (record { fits = room₁ .0 }, tt)))) $
         assigns ! (addr ! (from ! (fld ! refl (hop ! (look-in ! 19 (sub ! 0 refl (whole !))) (stop !))))) (from ! (stop !)) (init ! 9 refl (tt, tt)) $
-        assigns ! (agg ! (and-then ! (load ! (from ! (stop !)) (look ! 9 refl)) (and-then ! (load ! (from ! (fld ! refl (stop !))) (look-in ! 19 (sub ! 1 refl (whole !)))) (no-more !)))) (from ! (stop !)) (init ! 7 refl (tt, (tt, (record { fits = room₂ .0 }, tt)))) $
+        assigns ! (agg ! (and-then ! (load ! (from ! (stop !)) (look ! 9 refl))
+        (and-then ! (load ! (from ! (fld ! refl (stop !))) (look-in ! 19 (sub ! 1 refl (whole !)))) (no-more !)))) (from ! (stop !)) (init ! 7 refl (tt, (tt, (record { fits = room₂ .0 }, tt)))) $
         move ! (4 ∷ 6 ∷ 5 ∷ []) $ use3 W (raw (Step 𝓤 H A at-mem run .pre to-step)) (goes-step h-is) $
         -- [what `step` asks; the registers' cell; the open borrow; obs; auth; _12; …; _0; …]
         calls-at ! fm (Step 𝓤 H A at-mem run) known to-step
-        (and-then ! (load ! (from ! (stop !)) (look ! 25 refl)) (and-then ! (load ! (from ! (stop !)) (look ! 13 refl)) (and-then ! (load ! (from ! (stop !)) (look ! 23 refl)) (and-then ! (load ! (from ! (stop !)) (look ! 21 refl)) (and-then ! (load ! (from ! (stop !)) (look ! 9 refl)) (and-then ! (load ! (from ! (stop !)) (look ! 5 refl)) (no-more !))))))) (λ w.
-        use1 W (later (some (λ (r : Stepped). ((‵ (flft κ₁ q₁) ⊛ ‵ (flft κ₂ q₂) ⊛ ‵ ftrue) ⊛ ‵ (S.the-row .own r (w ∷ []))) ⊛ raw (ensured 𝓤 H A step.ended (step.clauses 𝓤 H A at-mem run) (κ₁, (κ₂, tt)) passed tt r)))) (id⊢ 𝓤 _) $ await ! tt $ pick ! (λ r.
+        (and-then ! (load ! (from ! (stop !)) (look ! 25 refl))
+        (and-then ! (load ! (from ! (stop !)) (look ! 13 refl))
+        (and-then ! (load ! (from ! (stop !)) (look ! 23 refl))
+        (and-then ! (load ! (from ! (stop !)) (look ! 21 refl))
+        (and-then ! (load ! (from ! (stop !)) (look ! 9 refl)) (and-then ! (load ! (from ! (stop !)) (look ! 5 refl)) (no-more !))))))) (λ w.
+        use1 W (later (some (λ (r : Stepped). ((‵ (flft κ₁ q₁) ⊛ ‵ (flft κ₂ q₂) ⊛ ‵ ftrue) ⊛ ‵ (S.the-row .own r (w ∷ []))) ⊛ raw
+        (ensured 𝓤 H A step.ended (step.clauses 𝓤 H A at-mem run) (κ₁, (κ₂, tt)) passed tt r)))) (id⊢ 𝓤 _) $ await ! tt $ pick ! (λ r.
         -- what `step` ensures, at some last lists
         split ! $ move ! (1 ∷ []) $ use1 W (some (λ (zs : Lasts). ‵ (lasts step.ended (κ₁, (κ₂, tt)) passed zs) ⊛ raw (fact 𝓤 (Said r zs)))) (id⊢ 𝓤 _) $ pick ! (λ zs.
         split ! $ move ! (1 ∷ []) $ heard ! (Said r zs) (λ e. fsplit ! $ drop ! $ fsplit ! $ drop ! $ fsplit ! $ drop ! $ fsplit ! $ drop ! $
         fsplit ! $ fsplit ! $ move ! (1 ∷ []) $ feqL ! (λ m₁. move ! (1 ∷ []) $ fsplit ! $ fsplit ! $ move ! (1 ∷ []) $ feqL ! (λ m₂.
         -- [the last cells; true; the last words; the tokens and the answer; the registers' cell; the open borrow; obs; auth; _12; …; _0; …]
         move ! (3 ∷ []) $ split ! $ move ! (1 ∷ []) $ facts ! S.the-row (Is S.the-row) (shows 𝓤 H A S.the-row) r (w ∷ []) (λ r-is.
-        land ! (from ! (stop !)) (init ! 18 refl (LL.lawful S.the-type S′.the-laws 𝓤 H A W .typed r _ r-is .0)) $ rewrite ! 18 (λ (u : Val). ‵ (fat fullShare S′.mir l₇ 0 u)) (ap only (LL.tells S.the-type S′.the-laws r (w ∷ []) r-is)) refl $
+        land ! (from ! (stop !)) (init ! 18 refl (LL.lawful S.the-type S′.the-laws 𝓤 H A W .typed r _ r-is .0)) $ rewrite ! 18 (λ (u : Val). ‵ (fat fullShare S′.mir l₇ 0 u))
+        (ap only (LL.tells S.the-type S′.the-laws r (w ∷ []) r-is)) refl $
         -- [the tokens; the last cells; true; the last words; the registers' cell; the open borrow; obs; auth; _12; …; _0; …]
-        assigns ! (of-opd ! (load ! (from ! (fld ! refl (stop !))) (look-in ! 18 (sub ! 1 refl (whole !))))) (from ! (hop ! (look ! 30 refl) (stop !))) (store-raw ! 4 refl (LL.lawful R.the-type R′.the-laws 𝓤 H A W .typed (r .registers) _ (registers-are r w r-is) .0)) $
+        assigns ! (of-opd ! (load ! (from ! (fld ! refl (stop !))) (look-in ! 18 (sub ! 1 refl (whole !))))) (from ! (hop ! (look ! 30 refl) (stop !)))
+        (store-raw ! 4 refl (LL.lawful R.the-type R′.the-laws 𝓤 H A W .typed (r .registers) _ (registers-are r w r-is) .0)) $
         assigns ! (of-opd ! (load ! (from ! (fld ! refl (stop !))) (look-in ! 18 (sub ! 0 refl (whole !))))) (from ! (stop !)) (init ! 32 refl (tt, record { fits = number-fits r w r-is })) $
-        owned ! R.the-row (Is R.the-row) (LL.makes R.the-type R′.the-plain 𝓤 H A) (r .registers) _ (registers-are r w r-is) $ move ! (5 ∷ 0 ∷ 6 ∷ 7 ∷ 8 ∷ []) $ closes ! tt R.the-row (r .registers) (registers-val (r .registers) ∷ []) b o $
+        owned ! R.the-row (Is R.the-row) (LL.makes R.the-type R′.the-plain 𝓤 H A) (r .registers) _ (registers-are r w r-is) $ move !
+        (5 ∷ 0 ∷ 6 ∷ 7 ∷ 8 ∷ []) $ closes ! tt R.the-row (r .registers) (registers-val (r .registers) ∷ []) b o $
         -- [obs; the registers' borrow; its token; the slices' tokens; the last cells; true; the last words; _12; …; _0; …]
         returns ! (look ! 31 refl) $ forget ! 7 refl $ forget ! 9 refl $ forget ! 11 refl $ forget ! 13 refl $ forget ! 15 refl $ forget ! 17 refl $ forget ! 19 refl $ forget ! 21 refl $ forget ! 23 refl $ forget ! 25 refl $ forget ! 27 refl $ forget ! 29 refl $ forget ! 31 refl $
-        move ! (31 ∷ 32 ∷ []) $ free1 ! $ move ! (29 ∷ 30 ∷ []) $ free1 ! $ move ! (27 ∷ 28 ∷ []) $ free1 ! $ move ! (25 ∷ 26 ∷ []) $ free1 ! $ move ! (23 ∷ 24 ∷ []) $ free1 ! $ move ! (21 ∷ 22 ∷ []) $ free1 ! $ move ! (19 ∷ 20 ∷ []) $ free1 ! $ move ! (17 ∷ 18 ∷ []) $ free1 ! $ move ! (15 ∷ 16 ∷ []) $ free1 ! $ move ! (13 ∷ 14 ∷ []) $ free1 ! $ move ! (11 ∷ 12 ∷ []) $ free1 ! $ move ! (9 ∷ 10 ∷ []) $ free1 ! $ move ! (7 ∷ 8 ∷ []) $ free1 ! $ free0 ! $
+        move ! (31 ∷ 32 ∷ []) $ free1 ! $ move ! (29 ∷ 30 ∷ []) $ free1 ! $ move ! (27 ∷ 28 ∷ []) $ free1 ! $ move ! (25 ∷ 26 ∷ []) $ free1 ! $ move !
+        (23 ∷ 24 ∷ []) $ free1 ! $ move ! (21 ∷ 22 ∷ []) $ free1 ! $ move ! (19 ∷ 20 ∷ []) $ free1 ! $ move ! (17 ∷ 18 ∷ []) $ free1 ! $ move !
+        (15 ∷ 16 ∷ []) $ free1 ! $ move ! (13 ∷ 14 ∷ []) $ free1 ! $ move ! (11 ∷ 12 ∷ []) $ free1 ! $ move ! (9 ∷ 10 ∷ []) $ free1 ! $ move ! (7 ∷ 8 ∷ []) $ free1 ! $ free0 ! $
         keep ! (0 ∷ 1 ∷ 2 ∷ 3 ∷ 6 ∷ 4 ∷ []) $ by ! (exits r (zs .1 .1 .1 .1 .0) (zs .1 .1 .1 .1 .1 .0) (number-fits r w r-is) m₁ m₂ e)))))))))))))))))))))))
 
 module _ {M : Type 1} (𝓤 : URA M) (H : Heap 𝓤) (A : Atoms 𝓤) (W : Given 𝓤 H A) (at-mem : Memory → SProp 𝓤) (run : Routine → Fun 𝓤) where
-  thin-walks : (C : Calls 𝓤 H) (Λ : Loops 𝓤 H) → FmC 𝓤 H (W .laws) C → Triple 𝓤 (C #target·single·step) (Step 𝓤 H A at-mem run) → Walks 𝓤 H A step-on.ended stayed (WpFn 𝓤 H C Λ thin) (step-on.clauses 𝓤 H A at-mem run)
+  thin-walks : (C : Calls 𝓤 H) (Λ : Loops 𝓤 H) → FmC 𝓤 H (W .laws) C → Triple 𝓤 (C #target·single·step) (Step 𝓤 H A at-mem run)
+      → Walks 𝓤 H A step-on.ended stayed (WpFn 𝓤 H C Λ thin) (step-on.clauses 𝓤 H A at-mem run)
   thin-walks C Λ fm known = walked 𝓤 H A step-on.ended stayed (step-on.clauses 𝓤 H A at-mem run) (WpFn 𝓤 H C Λ thin)
       (λ κs. (ptr-vals, (LL.vals D.the-type D′.the-laws, (uint-vals w8, (uint-vals w16, (slice-vals, (slice-vals, tt)))))))
-      (λ κs. (mut-tells (named 0) (κs .0) R.the-row, (LL.tells D.the-type D′.the-laws, (uint-tells w8, (uint-tells w16, (mut-slice-tells (named 1) (κs .1 .0) u16, (mut-slice-tells (named 2) (κs .1 .1 .0) u16, tt)))))))
+      (λ κs. (
+        mut-tells (named 0) (κs .0) R.the-row,
+        (
+          LL.tells D.the-type D′.the-laws,
+          (uint-tells w8, (uint-tells w16, (mut-slice-tells (named 1) (κs .1 .0) u16, (mut-slice-tells (named 2) (κs .1 .1 .0) u16, tt)))),
+        ),
+      ))
       (λ κs qs bounds a g are. let x₁ = a .1 .1 .1 .1 .0 in let x₂ = a .1 .1 .1 .1 .1 .0 in via 𝓤 _ (fst∗ 𝓤 _ (emp 𝓤))
-      (walk 𝓤 H A W at-mem run (κs .0) (κs .1 .0) (κs .1 .1 .0) (qs .0) (qs .1 .0) (qs .1 .1 .0) (a .0 .ptr .0) (a .0 .ptr .1) (a .0 .name) (a .0 .now) (a .1 .0) (are .1 .0) (a .1 .1 .0) (a .1 .1 .1 .0) (are .1 .1 .0 .1) (are .1 .1 .1 .0 .1)
+      (walk 𝓤 H A W at-mem run (κs .0) (κs .1 .0) (κs .1 .1 .0) (qs .0) (qs .1 .0) (qs .1 .1 .0) (a .0 .ptr .0) (a .0 .ptr .1) (a .0 .name) (a .0 .now) (a .1 .0) (are .1 .0)
+      (a .1 .1 .0) (a .1 .1 .1 .0) (are .1 .1 .0 .1) (are .1 .1 .1 .0 .1)
       (x₁ .ptr .0) (x₁ .ptr .1) (x₁ .name) (x₁ .now) (x₂ .ptr .0) (x₂ .ptr .1) (x₂ .name) (x₂ .now) C Λ fm known (are .1 .1 .1 .1 .0 .0 .1) (are .1 .1 .1 .1 .1 .0 .0 .1)))
 
   goes : AllGo 𝓤 H A W 3 (step-on.signature .params) (step-on.ended .kept) stayed
@@ -228,7 +265,8 @@ module _ {M : Type 1} (𝓤 : URA M) (H : Heap 𝓤) (A : Atoms 𝓤) (W : Given
     ),
   )
 
-pub thin-meets : {M : Type 1} (𝓤 : URA M) (H : Heap 𝓤) (A : Atoms 𝓤) → Given 𝓤 H A → (at-mem : Memory → SProp 𝓤) (run : Routine → Fun 𝓤) (𝓣 : Tables 𝓤 H) → Triple 𝓤 (𝓣 .C #target·single·step) (Step 𝓤 H A at-mem run)
+pub thin-meets : {M : Type 1} (𝓤 : URA M) (H : Heap 𝓤) (A : Atoms 𝓤) → Given 𝓤 H A → (at-mem : Memory → SProp 𝓤) (run : Routine → Fun 𝓤) (𝓣 : Tables 𝓤 H)
+    → Triple 𝓤 (𝓣 .C #target·single·step) (Step 𝓤 H A at-mem run)
     → Meets 𝓤 H A step-on.signature (WpFn 𝓤 H (𝓣 .C) (𝓣 .Λ) thin) (step-on.spec 𝓤 H A at-mem run)
 thin-meets 𝓤 H A W at-mem run 𝓣 known =
     walk-meets 𝓤 H A step-on.ended stayed W (goes 𝓤 H A W at-mem run) (step-on.clauses 𝓤 H A at-mem run)

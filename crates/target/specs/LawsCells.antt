@@ -1,95 +1,100 @@
--- Laws of what the orders of this family do to the cells, and of the word read.
+-- What an order's way through the code makes of the cells, and the word read, for any chip: one rule for each way.
 use Prim.Native.Nat.{ℕ, _+_, _-_, _*_, _/_, _%_, _≤_, _<_}
 use native.Mathlib.Omega.{arith}
+use native.Mathlib.Decide.{decLt}
 use mathlib.Core.Path.{_≡_, refl, sym, ap, _∙_}
-use mathlib.Core.Bool.{true, false, _||_}
+use mathlib.Core.Bool.{Bool, true, false, _||_}
 use mathlib.Core.List.{List}
-use lib.Dec.{eqb}
 use lib.Bits.{bitAnd}
 use lib.Arith.{digits-mod}
 use lib.ListN.{length, getD, set}
+use borrow.Author.Tests.{le-ltb}
 use Rattle.words.specs.Choice.{pick}
-use Rattle.words.specs.Word.{erased, bit}
+use Rattle.words.specs.Word.{erased}
 use Rattle.words.specs.Lists.{inRange, overlay}
-use Rattle.words.specs.Address.{entryOf}
 use Rattle.words.specs.LawsChoice.{pick-true, pick-false}
 use Rattle.words.specs.LawsLists.{getD-past, overlay-above, overlay-more, build-ext}
-use Rattle.words.specs.LawsAddress.{entry-program}
+use Rattle.words.specs.Address.{configBase, entryOf}
+use Rattle.words.specs.LawsAddress.{entry-config, entry-beyond}
 use Rattle.device.specs.declared.Device.{Device}
-use Rattle.device.specs.LawsRecord.{Rules, row}
-use Rattle.target.specs.Chip.{chipOf}
-use Rattle.target.specs.Effects.{protected, edit, inProgram, atErase, rowErased, bulkErased, written, latchOf, burnt, cellsAfter, wordRead}
+use Rattle.device.specs.Memory.{readingTail, cellsTail, programmable}
+use Rattle.device.specs.Record.{mostWords}
+use Rattle.device.specs.LawsMemory.{programmable-lt}
+use Rattle.device.specs.LawsRecord.{Rules}
+use Rattle.target.specs.Chip.{Chip, chipOf}
+use Rattle.target.specs.Effects.{locked, edit, inProgram, atErase, rowErased, bulkErased, beginWritten, latchOf, burnt, wordRead}
+use Rattle.target.specs.LawsChip.{SoundChip, sound-chip}
 use Rattle.target.specs.LawsEdit.{edit-none, edit-range, edit-one, edit-ext, edit-then}
-use Rattle.target.specs.LawsHits.{in-program, not-program, below-erase, above-erase, cell-at, canWrite, row-erased-program, row-erased-protected, row-erased-nowhere, row-erased-ids, bulk-erased-ids, bulk-erased-words, written-program, written-protected, written-between, written-not, written-one}
-use Rattle.target.specs.declared.Order.{Order}
-use Rattle.target.specs.declared.Order.the-variants.{LoadConfiguration, LoadData, Read, Increment, ResetAddress, Begin, BulkErase, RowErase}
+use Rattle.target.specs.LawsHits.{in-program, not-program, latch-within, at-erase, below-erase, above-erase}
+use Rattle.target.specs.LawsHits.{row-erased-program, row-erased-locked, row-erased-nowhere, row-erased-ids, bulk-erased-ids, bulk-erased-words}
+use Rattle.target.specs.LawsHits.{begin-written-program, begin-written-locked, begin-written-between, begin-written-not, begin-written-one}
 
--- ---- CP
+-- ---- the word read: b is whether the cells are protected, as the code has found
 
-pub protected-is : (d : Device) (cells : List ℕ) → eqb (getD cells (d .words + 7) 0 / 128 % 2) 0 ≡ protected (chipOf d) cells
-unfolding protected chipOf bit
-protected-is d cells = refl
-
--- ---- the word read
-
-module _ (d : Device) (a : ℕ) (cells : List ℕ) where
-  pub read-hidden : a < d .words → protected (chipOf d) cells ≡ true → wordRead (chipOf d) a cells ≡ 0
+module _ (chip : Chip) (a : ℕ) (cells : List ℕ) where
+  pub read-hidden : a < chip .words → (b : Bool) → b ≡ locked chip cells → b ≡ true → 0 ≡ wordRead chip a cells
   unfolding wordRead pick
-  read-hidden h p = rw (in-program d a h, p)
+  read-hidden h b e p = rw (in-program chip a h, ← e, p)
 
-  pub read-program : a < d .words → protected (chipOf d) cells ≡ false → wordRead (chipOf d) a cells ≡ getD cells a 0
+  pub read-program : SoundChip chip → a < chip .words → (b : Bool) → b ≡ locked chip cells → b ≡ false → getD cells a 0 ≡ wordRead chip a cells
   unfolding wordRead pick
-  read-program h p = rw (in-program d a h, p, cell-at d a, entry-program 0x8000 (d .words) 11 a h)
+  read-program s h b e p = rw (in-program chip a h, ← e, p, s .cell-program a h)
 
-  pub read-config : d .words ≤ a → wordRead (chipOf d) a cells ≡ getD cells (entryOf 0x8000 (d .words) 11 a) 0
-  unfolding wordRead pick
-  read-config h = rw (not-program d a h, cell-at d a)
+  -- where the code has looked for the word's cell
+  module _ (past : chip .words ≤ a) (i : ℕ) (e : i ≡ chip .cell a) where
+    pub read-at : getD cells i 0 ≡ wordRead chip a cells
+    unfolding wordRead pick
+    read-at = rw (not-program chip a past, e)
 
--- the same, where the code has looked for the word's cell
-module _ (d : Device) (a : ℕ) (cells : List ℕ) (i : ℕ) (past : d .words ≤ a) (e : i ≡ entryOf 0x8000 (d .words) 11 a) where
-  pub read-at : getD cells i 0 ≡ wordRead (chipOf d) a cells
-  read-at = ap (λ k. getD cells k 0) e ∙ sym (read-config d a cells past)
-
-  pub read-past : length cells ≤ i → 0 ≡ wordRead (chipOf d) a cells
-  read-past h = sym (getD-past cells i h) ∙ read-at
+    pub read-past : length cells ≤ i → 0 ≡ wordRead chip a cells
+    read-past h = sym (getD-past cells i h) ∙ read-at
 
 -- ---- Row Erase
 
-module _ (d : Device) (r : Rules d) (a : ℕ) (cells : List ℕ) where
-  pub row-erase-program : a < d .words → protected (chipOf d) cells ≡ false
-      → edit (rowErased (chipOf d) a cells) (λ i. erased) cells ≡ overlay (a / d .row * d .row) (d .row) (λ i. erased) cells
-  row-erase-program h p = edit-range _ _ cells (a / d .row * d .row) (d .row) (λ i q. row-erased-program d r a cells i h p)
+module _ (chip : Chip) (s : SoundChip chip) (a : ℕ) (cells : List ℕ) where
+  pub row-erase-locked : a < chip .words → (b : Bool) → b ≡ locked chip cells → b ≡ true → cells ≡ edit (rowErased chip a cells) (λ i. erased) cells
+  row-erase-locked h b e p = sym (edit-none _ _ cells (λ i. row-erased-locked chip s a cells i h (sym e ∙ p)))
 
-  pub row-erase-protected : a < d .words → protected (chipOf d) cells ≡ true → edit (rowErased (chipOf d) a cells) (λ i. erased) cells ≡ cells
-  row-erase-protected h p = edit-none _ _ cells (λ i. row-erased-protected d r a cells i h p)
+  pub row-erase-program : a < chip .words → (b : Bool) → b ≡ locked chip cells → b ≡ false
+      → (after : List ℕ) → after ≡ overlay (a / chip .row * chip .row) (chip .row) (λ i. erased) cells → after ≡ edit (rowErased chip a cells) (λ i. erased) cells
+  row-erase-program h b e p after f = f ∙ sym (edit-range _ _ cells (a / chip .row * chip .row) (chip .row) (λ i q. row-erased-program chip s a cells i h (sym e ∙ p)))
 
-  pub row-erase-between : d .words ≤ a → a < 0x8000 → edit (rowErased (chipOf d) a cells) (λ i. erased) cells ≡ cells
-  row-erase-between h p = edit-none _ _ cells (λ i. row-erased-nowhere d r a cells i h (below-erase d a p))
+  pub row-erase-between : chip .words ≤ a → a < chip .base → cells ≡ edit (rowErased chip a cells) (λ i. erased) cells
+  row-erase-between h p = sym (edit-none _ _ cells (λ i. row-erased-nowhere chip s a cells i h (below-erase chip a p)))
 
-  pub row-erase-beyond : 0x8008 < a → edit (rowErased (chipOf d) a cells) (λ i. erased) cells ≡ cells
-  row-erase-beyond h = edit-none _ _ cells (λ i. row-erased-nowhere d r a cells i (omega (arith, r .most)) (above-erase d a h))
+  pub row-erase-beyond : chip .words ≤ a → chip .base + chip .readingTail ≤ a → cells ≡ edit (rowErased chip a cells) (λ i. erased) cells
+  row-erase-beyond h p = sym (edit-none _ _ cells (λ i. row-erased-nowhere chip s a cells i h (above-erase chip a p)))
 
-  pub row-erase-ids : 0x8000 ≤ a → a ≤ 0x8008 → edit (rowErased (chipOf d) a cells) (λ i. erased) cells ≡ overlay (d .words) 4 (λ i. erased) cells
-  row-erase-ids p q = edit-range _ _ cells (d .words) 4 (λ i h. row-erased-ids d r a cells i p q)
+  pub row-erase-ids : chip .rowErasesIds ≡ true → chip .words ≤ a → chip .base ≤ a → a < chip .base + chip .readingTail
+      → (after : List ℕ) → after ≡ overlay (chip .words) (chip .ids) (λ i. erased) cells → after ≡ edit (rowErased chip a cells) (λ i. erased) cells
+  row-erase-ids t h p q after f = f ∙ sym (edit-range _ _ cells (chip .words) (chip .ids) (λ i k. row-erased-ids chip s a cells i t (at-erase chip a p q) h))
 
 -- ---- Bulk Erase: two ranges, and a third with the user IDs
 
-module _ (d : Device) (a : ℕ) (cells one two : List ℕ) (e : one ≡ overlay 0 (d .words) (λ i. erased) cells) (f : two ≡ overlay (d .words + 7) 2 (λ i. erased) one) where
-  both-ranges : two ≡ edit (λ i. inRange 0 (d .words) i || inRange (d .words + 7) 2 i) (λ i. erased) cells
+module _ (chip : Chip) (first count : ℕ) (configs : (k : ℕ) → chip .isConfig k ≡ inRange first count k) (a : ℕ) (cells one two : List ℕ)
+    (e : one ≡ overlay 0 (chip .words) (λ i. erased) cells) (f : two ≡ overlay (chip .words + first) count (λ i. erased) one) where
+  both-ranges : two ≡ edit (λ i. inRange 0 (chip .words) i || inRange (chip .words + first) count i) (λ i. erased) cells
   both-ranges =
       f
-      ∙ (ap (overlay (d .words + 7) 2 (λ i. erased)) (e ∙ sym (edit-range (inRange 0 (d .words)) (λ i. erased) cells 0 (d .words) (λ i h. refl)))
-      ∙ edit-then (inRange 0 (d .words)) erased (d .words + 7) 2 cells)
+      ∙ (ap (overlay (chip .words + first) count (λ i. erased)) (e ∙ sym (edit-range (inRange 0 (chip .words)) (λ i. erased) cells 0 (chip .words) (λ i h. refl)))
+      ∙ edit-then (inRange 0 (chip .words)) erased (chip .words + first) count cells)
 
-  pub bulk-erase-words : atErase (chipOf d) a ≡ false → two ≡ edit (bulkErased (chipOf d) a) (λ i. erased) cells
-  bulk-erase-words n = both-ranges ∙ sym (edit-ext _ _ (λ i. erased) cells (λ i h. bulk-erased-words d a i n))
+  words-only : atErase chip a ≡ false → two ≡ edit (bulkErased chip a) (λ i. erased) cells
+  words-only n = both-ranges ∙ sym (edit-ext _ _ (λ i. erased) cells (λ i h. bulk-erased-words chip first count configs a i n))
 
-  pub bulk-erase-ids : (three : List ℕ) → three ≡ overlay (d .words) 4 (λ i. erased) two → atErase (chipOf d) a ≡ true → three ≡ edit (bulkErased (chipOf d) a) (λ i. erased) cells
-  bulk-erase-ids three g y =
+  pub bulk-erase-below : a < chip .base → two ≡ edit (bulkErased chip a) (λ i. erased) cells
+  bulk-erase-below h = words-only (below-erase chip a h)
+
+  pub bulk-erase-beyond : chip .base + chip .readingTail ≤ a → two ≡ edit (bulkErased chip a) (λ i. erased) cells
+  bulk-erase-beyond h = words-only (above-erase chip a h)
+
+  pub bulk-erase-ids : chip .base ≤ a → a < chip .base + chip .readingTail → (three : List ℕ) → three ≡ overlay (chip .words) (chip .ids) (λ i. erased) two
+      → three ≡ edit (bulkErased chip a) (λ i. erased) cells
+  bulk-erase-ids p q three g =
       g
-      ∙ (ap (overlay (d .words) 4 (λ i. erased)) both-ranges
-      ∙ (edit-then (λ i. inRange 0 (d .words) i || inRange (d .words + 7) 2 i) erased (d .words) 4 cells
-      ∙ sym (edit-ext _ _ (λ i. erased) cells (λ i h. bulk-erased-ids d a i y))))
+      ∙ (ap (overlay (chip .words) (chip .ids) (λ i. erased)) both-ranges
+      ∙ (edit-then (λ i. inRange 0 (chip .words) i || inRange (chip .words + first) count i) erased (chip .words) (chip .ids) cells
+      ∙ sym (edit-ext _ _ (λ i. erased) cells (λ i h. bulk-erased-ids chip first count configs a i (at-erase chip a p q)))))
 
 -- ---- Begin
 
@@ -104,73 +109,83 @@ write-turn latches row q l m i h e =
     old : getD m (q * row + i) 0 ≡ getD l (q * row + i) 0
     old = ap (λ x. getD x (q * row + i) 0) e ∙ overlay-above (q * row) i (λ k. bitAnd (getD l k 0) (getD latches (k % row) 0)) l (q * row + i) (omega arith)
 
-module _ (d : Device) (r : Rules d) (a : ℕ) (latches cells : List ℕ) where
+module _ (chip : Chip) (a : ℕ) (latches cells : List ℕ) (i : ℕ) where
   -- in program memory each word's own latch
-  latch-program : a < d .words → (i : ℕ) → burnt (chipOf d) a latches cells i ≡ bitAnd (getD cells i 0) (getD latches (i % d .row) 0)
-  latch-program h i = opened ∙ ap (λ k. bitAnd (getD cells i 0) (getD latches (k % d .row) 0)) (pick-true (inProgram (chipOf d) a) i a (in-program d a h))
+  burnt-program : a < chip .words → burnt chip a latches cells i ≡ chip .burn i (getD cells i 0) (getD latches (i % chip .group) 0)
+  unfolding burnt latchOf
+  burnt-program h = ap (λ k. chip .burn i (getD cells i 0) (getD latches (k % chip .group) 0)) (pick-true (inProgram chip a) i a (in-program chip a h))
+
+  burnt-config : chip .words ≤ a → burnt chip a latches cells i ≡ chip .burn i (getD cells i 0) (getD latches (a % chip .group) 0)
+  unfolding burnt latchOf
+  burnt-config h = ap (λ k. chip .burn i (getD cells i 0) (getD latches (k % chip .group) 0)) (pick-false (inProgram chip a) i a (not-program chip a h))
+
+module _ (chip : Chip) (s : SoundChip chip) (a : ℕ) (latches cells : List ℕ) where
+  pub begin-locked : a < chip .words → (b : Bool) → b ≡ locked chip cells → b ≡ true → cells ≡ edit (beginWritten chip a cells) (burnt chip a latches cells) cells
+  begin-locked h b e p = sym (edit-none _ _ cells (λ i. begin-written-locked chip s a cells i h (sym e ∙ p)))
+
+  pub begin-program : a < chip .words → (b : Bool) → b ≡ locked chip cells → b ≡ false
+      → (after : List ℕ) → after ≡ overlay (a / chip .group * chip .group) (chip .group) (λ i. chip .burn i (getD cells i 0) (getD latches (i % chip .group) 0)) cells
+      → after ≡ edit (beginWritten chip a cells) (burnt chip a latches cells) cells
+  begin-program h b e p after f = f ∙ sym (edit-range _ _ cells (a / chip .group * chip .group) (chip .group) (λ i q. begin-written-program chip s a cells i h (sym e ∙ p)) ∙ each)
     where
-      opened : burnt (chipOf d) a latches cells i ≡ bitAnd (getD cells i 0) (getD latches (pick (inProgram (chipOf d) a) i a % d .row) 0)
-      opened = unfold burnt latchOf chipOf in refl
+      each : overlay (a / chip .group * chip .group) (chip .group) (burnt chip a latches cells) cells
+          ≡ overlay (a / chip .group * chip .group) (chip .group) (λ i. chip .burn i (getD cells i 0) (getD latches (i % chip .group) 0)) cells
+      each =
+          unfold overlay in
+          build-ext (length cells) _ _ (λ i q. ap (λ w. pick (inRange (a / chip .group * chip .group) (chip .group) i) w (getD cells i 0)) (burnt-program chip a latches cells i h))
 
-  latch-config : d .words ≤ a → (i : ℕ) → burnt (chipOf d) a latches cells i ≡ bitAnd (getD cells i 0) (getD latches (a % d .row) 0)
-  latch-config h i = opened ∙ ap (λ k. bitAnd (getD cells i 0) (getD latches (k % d .row) 0)) (pick-false (inProgram (chipOf d) a) i a (not-program d a h))
+  pub begin-between : chip .words ≤ a → a < chip .base → cells ≡ edit (beginWritten chip a cells) (burnt chip a latches cells) cells
+  begin-between h p = sym (edit-none _ _ cells (λ i. begin-written-between chip s a cells i h p))
+
+  -- where the code has looked for the counter's cell, and b is whether that can be written
+  module _ (h : chip .base ≤ a) (i : ℕ) (e : i ≡ chip .cell a) (b : Bool) (f : b ≡ chip .isWritable (i - chip .words)) where
+    writable : b ≡ chip .isWritable (chip .cell a - chip .words)
+    writable = f ∙ ap (λ k. chip .isWritable (k - chip .words)) e
+
+    begin-not : b ≡ false → cells ≡ edit (beginWritten chip a cells) (burnt chip a latches cells) cells
+    begin-not n = sym (edit-none _ _ cells (λ k. begin-written-not chip s a cells k h (sym writable ∙ n)))
+
+    begin-one : b ≡ true → set cells i (chip .burn i (getD cells i 0) (getD latches (a % chip .group) 0)) ≡ edit (beginWritten chip a cells) (burnt chip a latches cells) cells
+    begin-one t =
+        ap (λ k. set cells k (chip .burn k (getD cells k 0) (getD latches (a % chip .group) 0))) e
+        ∙ (ap (set cells (chip .cell a)) (sym (burnt-config chip a latches cells (chip .cell a) (omega (arith, s .below))))
+        ∙ sym (edit-one _ _ cells (chip .cell a) (λ k q. begin-written-one chip s a cells k h (sym writable ∙ t))))
+
+-- ---- this family's rows and latches, as the code asks for them
+
+module _ (d : Device) (r : Rules d) where
+  pub some-row : 0 < d .row
+  some-row = sound-chip d r .some-row
+
+  pub latch-of : (a : ℕ) → a % d .row < chipOf d .places
+  latch-of a = latch-within (chipOf d) (sound-chip d r) a
+
+  -- what can be written is one of the cells
+  module _ (i : ℕ) (b : Bool) (e : b ≡ programmable (d .words) i) (t : b ≡ true) where
+    pub cell-low : i < mostWords + readingTail
+    cell-low = let h : i < d .words + readingTail = programmable-lt (d .words) i (sym e ∙ t) in let m : d .words ≤ mostWords = r .most in omega arith
+
+    pub cell-within : (cells : List ℕ) → length cells ≡ d .words + cellsTail → i < length cells
+    cell-within cells l = let h : i < d .words + readingTail = programmable-lt (d .words) i (sym e ∙ t) in omega arith
+
+-- ---- Begin in this family, where a cell of configuration space can be written if its word is programmable
+
+module _ (d : Device) (r : Rules d) (a : ℕ) (latches cells : List ℕ) (h : configBase ≤ a) (i : ℕ) (e : i ≡ chipOf d .cell a) (b : Bool) (f : b ≡ programmable (d .words) i) where
+  past-program : d .words ≤ i
+  past-program = rw e (by (decLt (a - configBase) cellsTail))
     where
-      opened : burnt (chipOf d) a latches cells i ≡ bitAnd (getD cells i 0) (getD latches (pick (inProgram (chipOf d) a) i a % d .row) 0)
-      opened = unfold burnt latchOf chipOf in refl
+      low : d .words ≤ a
+      low = let m : d .words ≤ mostWords = r .most in omega arith
 
-  pub begin-program : a < d .words → protected (chipOf d) cells ≡ false
-      → edit (written (chipOf d) a cells) (burnt (chipOf d) a latches cells) cells ≡ overlay (a / d .row * d .row) (d .row) (λ i. bitAnd (getD cells i 0) (getD latches (i % d .row) 0)) cells
-  begin-program h p =
-      edit-range _ _ cells (a / d .row * d .row) (d .row) (λ i q. written-program d r a cells i h p)
-      ∙ (unfold overlay in build-ext (length cells) _ _ (λ i q. ap (λ w. pick (inRange (a / d .row * d .row) (d .row) i) w (getD cells i 0)) (latch-program h i)))
+      by : Dec (a - configBase < cellsTail) → d .words ≤ entryOf configBase (d .words) cellsTail a
+      by (yes p) = rw (entry-config configBase (d .words) cellsTail a low h p) (omega arith)
+      by (no p) = rw (entry-beyond configBase (d .words) cellsTail a low h (omega arith)) (omega arith)
 
-  pub begin-protected : a < d .words → protected (chipOf d) cells ≡ true → edit (written (chipOf d) a cells) (burnt (chipOf d) a latches cells) cells ≡ cells
-  begin-protected h p = edit-none _ _ cells (λ i. written-protected d r a cells i h p)
+  can-write : b ≡ chipOf d .isWritable (i - d .words)
+  can-write = f ∙ (unfold programmable in rw (le-ltb i (d .words) past-program))
 
-  pub begin-between : d .words ≤ a → a < 0x8000 → edit (written (chipOf d) a cells) (burnt (chipOf d) a latches cells) cells ≡ cells
-  begin-between h p = edit-none _ _ cells (λ i. written-between d r a cells i h p)
+  pub begin-other : b ≡ false → cells ≡ edit (beginWritten (chipOf d) a cells) (burnt (chipOf d) a latches cells) cells
+  begin-other n = begin-not (chipOf d) (sound-chip d r) a latches cells h i e b can-write n
 
-  pub begin-not : 0x8000 ≤ a → canWrite (a - 0x8000) ≡ false → edit (written (chipOf d) a cells) (burnt (chipOf d) a latches cells) cells ≡ cells
-  begin-not h f = edit-none _ _ cells (λ i. written-not d r a cells i h f)
-
-  pub begin-one : 0x8000 ≤ a → canWrite (a - 0x8000) ≡ true
-      → edit (written (chipOf d) a cells) (burnt (chipOf d) a latches cells) cells ≡ set cells (d .words + (a - 0x8000)) (bitAnd (getD cells (d .words + (a - 0x8000)) 0) (getD latches (a % d .row) 0))
-  begin-one h t =
-      edit-one _ _ cells (d .words + (a - 0x8000)) (λ i q. written-one d r a cells i h t)
-      ∙ ap (set cells (d .words + (a - 0x8000))) (latch-config (omega (arith, r .most)) (d .words + (a - 0x8000)))
-
--- ---- the cells after an order
-
-module _ (d : Device) (o : Order) (a : ℕ) (latches cells : List ℕ) where
-  pub load-configuration-cells : (w : ℕ) → o ≡ LoadConfiguration w → cells ≡ cellsAfter (chipOf d) o a latches cells
-  unfolding cellsAfter
-  load-configuration-cells w e = rw e
-
-  pub load-data-cells : (w : ℕ) → o ≡ LoadData w → cells ≡ cellsAfter (chipOf d) o a latches cells
-  unfolding cellsAfter
-  load-data-cells w e = rw e
-
-  pub read-cells : o ≡ Read → cells ≡ cellsAfter (chipOf d) o a latches cells
-  unfolding cellsAfter
-  read-cells e = rw e
-
-  pub increment-cells : o ≡ Increment → cells ≡ cellsAfter (chipOf d) o a latches cells
-  unfolding cellsAfter
-  increment-cells e = rw e
-
-  pub reset-cells : o ≡ ResetAddress → cells ≡ cellsAfter (chipOf d) o a latches cells
-  unfolding cellsAfter
-  reset-cells e = rw e
-
-  module _ (after : List ℕ) where
-    pub begin-cells : o ≡ Begin → after ≡ edit (written (chipOf d) a cells) (burnt (chipOf d) a latches cells) cells → after ≡ cellsAfter (chipOf d) o a latches cells
-    unfolding cellsAfter
-    begin-cells e f = rw e f
-
-    pub bulk-erase-cells : o ≡ BulkErase → after ≡ edit (bulkErased (chipOf d) a) (λ i. erased) cells → after ≡ cellsAfter (chipOf d) o a latches cells
-    unfolding cellsAfter
-    bulk-erase-cells e f = rw e f
-
-    pub row-erase-cells : o ≡ RowErase → after ≡ edit (rowErased (chipOf d) a cells) (λ i. erased) cells → after ≡ cellsAfter (chipOf d) o a latches cells
-    unfolding cellsAfter
-    row-erase-cells e f = rw e f
+  pub begin-word : b ≡ true → set cells i (bitAnd (getD cells i 0) (getD latches (a % d .row) 0)) ≡ edit (beginWritten (chipOf d) a cells) (burnt (chipOf d) a latches cells) cells
+  begin-word t = begin-one (chipOf d) (sound-chip d r) a latches cells h i e b can-write t

@@ -1,7 +1,9 @@
--- Laws of the crash logic: one stream after another, one order, and 'and then any number of times again'.
+-- Laws of the crash logic: one stream after another, one order, one of two streams, and 'and then any number of times again'.
 use mathlib.Core.Path.{_≡_, refl, sym, subst}
 use mathlib.Core.List.{List, [], _∷_, _++_}
+use mathlib.Core.Bool.{Bool, true, false}
 use mathlib.Core.Logic.{_⊎_, inl, inr, ⊎-elim}
+use Rattle.words.specs.Choice.{pick}
 use Rattle.target.specs.Crash.{Machine, runs, Goes, CutAt, Safe, Again, none, again}
 
 module _ {Mem : Type 0} (M : Machine Mem) where
@@ -20,8 +22,9 @@ module _ {Mem : Type 0} (M : Machine Mem) where
   cut-append (o ∷ s) t x c (inr k) = ⊎-elim (λ h. inl (inr h)) (λ h. inr h) (cut-append s t (M .step o x) c k)
 
   module _ (I : Mem → Type 0) where
-    pub safe-none : (A : M .State → Type 0) → Safe M I A [] A
-    safe-none A = record { goes = λ x a. tt; ends = λ x a. a; cuts = λ x a c k. absurd k }
+    -- no order: what holds goes on
+    pub safe-stay : {A B : M .State → Type 0} → ((x : M .State) → A x → B x) → Safe M I A [] B
+    safe-stay h = record { goes = λ x a. tt; ends = h; cuts = λ x a c k. absurd k }
 
     -- one order
     pub safe-one : (A B : M .State → Type 0) (o : M .Order)
@@ -41,9 +44,24 @@ module _ {Mem : Type 0} (M : Machine Mem) where
           cuts = λ x a c k. ⊎-elim (f .cuts x a c) (g .cuts (runs M s x) (f .ends x a) c) (cut-append s t x c k);
         }
 
-    -- an order, and then a stream
-    pub safe-then : (A B C : M .State → Type 0) (o : M .Order) (t : List (M .Order)) → Safe M I A (o ∷ []) B → Safe M I B t C → Safe M I A (o ∷ t) C
-    safe-then A B C o t f g = safe-seq A B C (o ∷ []) t f g
+    -- an order by what it does, and then a stream
+    pub safe-first : {A C : M .State → Type 0} (B : M .State → Type 0) (o : M .Order) (t : List (M .Order))
+        → ((x : M .State) → A x → M .Takes o x)
+        → ((x : M .State) → A x → B (M .step o x))
+        → ((x : M .State) → A x → (c : Mem) → M .Tears o x c → I c)
+        → Safe M I B t C → Safe M I A (o ∷ t) C
+    safe-first B o t takes ends tears g =
+        record {
+          goes = λ x a. (takes x a, g .goes (M .step o x) (ends x a));
+          ends = λ x a. g .ends (M .step o x) (ends x a);
+          cuts = λ x a c k. ⊎-elim (λ h. tears x a c h) (λ h. g .cuts (M .step o x) (ends x a) c h) k;
+        }
+
+    -- one of two streams, by a test
+    pub safe-pick : {A B : M .State → Type 0} (b : Bool) (s t : List (M .Order)) → (b ≡ true → Safe M I A s B) → (b ≡ false → Safe M I A t B) → Safe M I A (pick b s t) B
+    unfolding pick
+    safe-pick true s t f g = f refl
+    safe-pick false s t f g = g refl
 
     -- from fewer states, to more
     pub safe-weaken : (A A′ B B′ : M .State → Type 0) (s : List (M .Order)) → ((x : M .State) → A′ x → A x) → ((x : M .State) → B x → B′ x) → Safe M I A s B → Safe M I A′ s B′

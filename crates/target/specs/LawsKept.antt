@@ -1,174 +1,193 @@
--- What no order changes, and what orders leave: well-formed cells stay so, five words of configuration space never change,
--- and the counter walks by Increments.
+-- What orders leave on any chip: well-formed cells stay so, words that no write changes never change, Begin puts the latches back, Increments walk.
 use Prim.Native.Nat.{ℕ, zero, suc, _+_, _-_, _*_, _/_, _≤_, _<_}
-use native.Mathlib.Nat.{add-zero, lt-of-le-of-lt}
+use native.Mathlib.Nat.{add-zero}
 use native.Mathlib.Omega.{arith}
-use native.Mathlib.Decide.{decLt}
-use mathlib.Core.Path.{_≡_, refl, sym, ap, _∙_}
-use mathlib.Core.Bool.{Bool, true, false, _&&_, _||_, not}
+use native.Mathlib.Decide.{decLt, ℕ-discrete}
+use mathlib.Core.Path.{_≡_, refl, sym, ap, subst, _∙_}
+use mathlib.Core.Bool.{Bool, true, false, _&&_, not}
 use mathlib.Core.List.{List}
-use lib.Bits.{and-le-l}
+use lib.Dec.{leb, eqb}
 use lib.ListN.{length, getD, replicate}
+use borrow.Author.Tests.{lt-ltb, le-ltb, ne-eqb}
+use Rattle.words.specs.Choice.{pick}
 use Rattle.words.specs.Word.{erased}
+use Rattle.words.specs.Lists.{inRange}
 use Rattle.words.specs.Address.{successor}
 use Rattle.words.specs.LawsAddress.{successor-program, successor-config}
+use Rattle.words.specs.LawsChoice.{first-fails, second-fails, true-not-false}
+use Rattle.words.specs.LawsLists.{getD-past, above-range}
 use Rattle.device.specs.declared.Device.{Device}
+use Rattle.device.specs.Memory.{programmable}
+use Rattle.device.specs.LawsRecord.{Rules}
 use Rattle.target.specs.Chip.{Chip, chipOf}
-use Rattle.target.specs.Effects.{counterAfter, latchesAfter, edit, rowErased, bulkErased, written, burnt, cellsAfter, registersAfter, idCell, inProgram, protected, atErase, blank}
-use Rattle.target.specs.LawsEdit.{length-edit, edit-hit, edit-kept}
+use Rattle.target.specs.Effects.{edit, inProgram, idCell, configCell, atErase, locked, rowErased, bulkErased, beginWritten, burnt, blank}
+use Rattle.target.specs.Model.{done, stops}
+use Rattle.target.specs.Step.{Target, effect, place, moved}
 use Rattle.target.specs.Crash.{runs}
-use Rattle.target.specs.Board.{Board, boardOf}
+use Rattle.target.specs.Board.{boardOf}
+use Rattle.target.specs.LawsChip.{SoundChip, Burning, sound-chip}
+use Rattle.target.specs.LawsEdit.{length-edit, edit-hit, edit-kept}
 use Rattle.target.specs.declared.Order.{Order}
 use Rattle.target.specs.declared.Order.the-variants.{LoadConfiguration, LoadData, Read, Increment, ResetAddress, Begin, BulkErase, RowErase}
-use Rattle.words.specs.LawsChoice.{second-fails, true-not-false}
-use Rattle.words.specs.LawsLists.{in-range, below-range, above-range}
-use Rattle.words.specs.Lists.{inRange}
-use Rattle.device.specs.LawsRecord.{Rules}
-use Rattle.target.specs.LawsHits.{canWrite, cannot-write, row-within, id-cell, config-cell, not-program, written-program, written-protected, written-between, written-not, written-one}
-use lib.Dec.{eqb}
-use borrow.Author.Tests.{ne-eqb}
 
--- ---- the cells' number
+-- ---- any property of the cells
 
-pub length-after : (chip : Chip) (o : Order) (a : ℕ) (latches cells : List ℕ) → length (cellsAfter chip o a latches cells) ≡ length cells
-unfolding cellsAfter
-length-after chip (LoadConfiguration w) a latches cells = refl
-length-after chip (LoadData w) a latches cells = refl
-length-after chip Read a latches cells = refl
-length-after chip Increment a latches cells = refl
-length-after chip ResetAddress a latches cells = refl
-length-after chip Begin a latches cells = length-edit (written chip a cells) (burnt chip a latches cells) cells
-length-after chip BulkErase a latches cells = length-edit (bulkErased chip a) (λ i. erased) cells
-length-after chip RowErase a latches cells = length-edit (rowErased chip a cells) (λ i. erased) cells
+-- an order leaves the cells, or makes one of three edits of them
+pub record Edits (chip : Chip) (t : Target) (P : List ℕ → Type 0) : Type 0 where
+  pub stay : P (t .cells)
+  pub begin : P (edit (beginWritten chip (place t) (t .cells)) (burnt chip (place t) (t .registers .latches) (t .cells)) (t .cells))
+  pub bulk : P (edit (bulkErased chip (place t)) (λ i. erased) (t .cells))
+  pub row : P (edit (rowErased chip (place t) (t .cells)) (λ i. erased) (t .cells))
 
--- ---- the words fit
+either-cells : (P : List ℕ → Type 0) (b : Bool) (n : ℕ) (t u : Target) → P (t .cells) → P (u .cells) → P (pick b (done u) (stops n t) .target .cells)
+unfolding pick
+either-cells P true n t u p q = q
+either-cells P false n t u p q = p
+
+pub any-order : (chip : Chip) (t : Target) (P : List ℕ → Type 0) → Edits chip t P → (o : Order) → P (effect chip o t .target .cells)
+unfolding effect
+any-order chip t P e (LoadConfiguration w) = e .stay
+any-order chip t P e (LoadData w) = e .stay
+any-order chip t P e Read = either-cells P _ _ _ _ (e .stay) (e .stay)
+any-order chip t P e Increment = e .stay
+any-order chip t P e ResetAddress = e .stay
+any-order chip t P e Begin = e .begin
+any-order chip t P e BulkErase = either-cells P _ _ _ _ (e .stay) (e .bulk)
+any-order chip t P e RowErase = e .row
+
+-- ---- cells stay as many, and words
+
+pub length-after : (chip : Chip) (o : Order) (t : Target) → length (effect chip o t .target .cells) ≡ length (t .cells)
+length-after chip o t =
+    any-order chip t (λ c. length c ≡ length (t .cells)) (record { stay = refl; begin = length-edit _ _ (t .cells); bulk = length-edit _ _ (t .cells); row = length-edit _ _ (t .cells) }) o
 
 fits-edit : (hit : ℕ → Bool) (new : ℕ → ℕ) (cells : List ℕ) → ((i : ℕ) → getD cells i 0 < 0x4000) → ((i : ℕ) → new i < 0x4000) → (i : ℕ) → getD (edit hit new cells) i 0 < 0x4000
 fits-edit hit new cells old fresh i = by (hit i) refl (decLt i (length cells))
   where
     by : (b : Bool) → hit i ≡ b → Dec (i < length cells) → getD (edit hit new cells) i 0 < 0x4000
     by true e (yes h) = rw (edit-hit hit new cells i h e) (fresh i)
-    by true e (no h) = rw (Rattle.words.specs.LawsLists.getD-past (edit hit new cells) i (rw length-edit (omega arith))) (omega arith)
+    by true e (no h) = rw (getD-past (edit hit new cells) i (rw length-edit (omega arith))) (omega arith)
     by false e h = rw (edit-kept hit new cells i e) (old i)
 
-burnt-fits : (d : Device) (a : ℕ) (latches cells : List ℕ) → ((i : ℕ) → getD cells i 0 < 0x4000) → (i : ℕ) → burnt (chipOf d) a latches cells i < 0x4000
-unfolding burnt chipOf
-burnt-fits d a latches cells old i = lt-of-le-of-lt (and-le-l (getD cells i 0) _) (old i)
-
-pub fits-after : (d : Device) (o : Order) (a : ℕ) (latches cells : List ℕ) → ((i : ℕ) → getD cells i 0 < 0x4000) → (i : ℕ) → getD (cellsAfter (chipOf d) o a latches cells) i 0 < 0x4000
-unfolding cellsAfter
-fits-after d (LoadConfiguration w) a latches cells old i = old i
-fits-after d (LoadData w) a latches cells old i = old i
-fits-after d Read a latches cells old i = old i
-fits-after d Increment a latches cells old i = old i
-fits-after d ResetAddress a latches cells old i = old i
-fits-after d Begin a latches cells old i = fits-edit (written (chipOf d) a cells) (burnt (chipOf d) a latches cells) cells old (burnt-fits d a latches cells old) i
-fits-after d BulkErase a latches cells old i = fits-edit (bulkErased (chipOf d) a) (λ k. erased) cells old (λ k. omega arith) i
-fits-after d RowErase a latches cells old i = fits-edit (rowErased (chipOf d) a cells) (λ k. erased) cells old (λ k. omega arith) i
-
--- ---- the counter
-
--- n Increments within program space
-pub walk-program : (d : Device) (n : ℕ) (x : Board) → x .registers .counter .0 + n < 0x8000 → runs (boardOf (chipOf d)) (replicate n Increment) x ≡ record { registers = record { counter = record { 0 = x .registers .counter .0 + n }; latches = x .registers .latches }; cells = x .cells }
-walk-program d zero x h = λ i. record { registers = record { counter = record { 0 = sym (add-zero (x .registers .counter .0)) i }; latches = x .registers .latches }; cells = x .cells }
-walk-program d (suc n) x h =
-    ap (runs (boardOf (chipOf d)) (replicate n Increment)) one
-    ∙ (walk-program d n (record { registers = record { counter = record { 0 = x .registers .counter .0 + 1 }; latches = x .registers .latches }; cells = x .cells }) (omega arith)
-    ∙ (λ i. record { registers = record { counter = record { 0 = sum i }; latches = x .registers .latches }; cells = x .cells }))
+pub fits-after : (chip : Chip) → Burning chip → (o : Order) (t : Target) → ((i : ℕ) → getD (t .cells) i 0 < 0x4000) → (i : ℕ) → getD (effect chip o t .target .cells) i 0 < 0x4000
+fits-after chip b o t old i =
+    any-order chip t (λ c. getD c i 0 < 0x4000)
+    (record {
+      stay = old i;
+      begin = fits-edit _ _ (t .cells) old burnt-fits i;
+      bulk = fits-edit _ _ (t .cells) old (λ k. omega arith) i;
+      row = fits-edit _ _ (t .cells) old (λ k. omega arith) i;
+    })
+    o
   where
-    sum : x .registers .counter .0 + 1 + n ≡ x .registers .counter .0 + suc n
-    sum = omega arith
+    burnt-fits : (k : ℕ) → burnt chip (place t) (t .registers .latches) (t .cells) k < 0x4000
+    burnt-fits k = unfold burnt in b .burn-fits k (getD (t .cells) k 0) _ (old k)
 
-    next : counterAfter (chipOf d) Increment (x .registers .counter .0) ≡ x .registers .counter .0 + 1
-    next = opened ∙ successor-program 0x8000 (x .registers .counter .0) (omega arith)
-      where
-        opened : counterAfter (chipOf d) Increment (x .registers .counter .0) ≡ successor 0x8000 (x .registers .counter .0)
-        opened = unfold counterAfter chipOf in refl
+-- ---- words that never change
 
-    one : boardOf (chipOf d) .step Increment x ≡ record { registers = record { counter = record { 0 = x .registers .counter .0 + 1 }; latches = x .registers .latches }; cells = x .cells }
-    one = opened ∙ (λ i. record { registers = record { counter = record { 0 = next i }; latches = x .registers .latches }; cells = x .cells })
-      where
-        opened : boardOf (chipOf d) .step Increment x ≡ record { registers = record { counter = record { 0 = counterAfter (chipOf d) Increment (x .registers .counter .0) }; latches = x .registers .latches }; cells = x .cells }
-        opened = unfold registersAfter latchesAfter cellsAfter in refl
+middle-fails : (a b c : Bool) → b ≡ false → (a && b && c) ≡ false
+middle-fails a b c e = first-fails (a && b) c (second-fails a b e)
 
--- n Increments within configuration space
-pub walk-config : (d : Device) (n : ℕ) (x : Board) → 0x8000 ≤ x .registers .counter .0 → x .registers .counter .0 + n < 0x10000 → runs (boardOf (chipOf d)) (replicate n Increment) x ≡ record { registers = record { counter = record { 0 = x .registers .counter .0 + n }; latches = x .registers .latches }; cells = x .cells }
-walk-config d zero x p h = λ i. record { registers = record { counter = record { 0 = sym (add-zero (x .registers .counter .0)) i }; latches = x .registers .latches }; cells = x .cells }
-walk-config d (suc n) x p h =
-    ap (runs (boardOf (chipOf d)) (replicate n Increment)) one
-    ∙ (walk-config d n (record { registers = record { counter = record { 0 = x .registers .counter .0 + 1 }; latches = x .registers .latches }; cells = x .cells }) (omega arith) (omega arith)
-    ∙ (λ i. record { registers = record { counter = record { 0 = sum i }; latches = x .registers .latches }; cells = x .cells }))
+last-fails : (a b c : Bool) → c ≡ false → (a && b && c) ≡ false
+last-fails a b c e = second-fails (a && b) c e
+
+module _ (chip : Chip) (s : SoundChip chip) (k : ℕ) (fixed : chip .isWritable k ≡ false) where
+  no-program : inProgram chip (chip .words + k) ≡ false
+  unfolding inProgram
+  no-program = le-ltb (chip .words + k) (chip .words) (omega arith)
+
+  back : chip .words + k - chip .words ≡ k
+  back = omega arith
+
+  no-id : idCell chip (chip .words + k) ≡ false
+  unfolding idCell
+  no-id = by (decLt k (chip .ids))
+    where
+      by : Dec (k < chip .ids) → inRange (chip .words) (chip .ids) (chip .words + k) ≡ false
+      by (yes h) = absurd (true-not-false (s .id-writable k h) fixed)
+      by (no h) = above-range (chip .words) (chip .ids) (chip .words + k) (omega arith)
+
+  no-config : configCell chip (chip .words + k) ≡ false
+  unfolding configCell
+  no-config = second-fails (leb (chip .words) (chip .words + k)) (chip .isConfig (chip .words + k - chip .words)) (rw back (by (chip .isConfig k) refl))
+    where
+      by : (b : Bool) → chip .isConfig k ≡ b → chip .isConfig k ≡ false
+      by true e = absurd (true-not-false (s .config-writable k e) fixed)
+      by false e = e
+
+  not-erased : (a : ℕ) (cells : List ℕ) → rowErased chip a cells (chip .words + k) ≡ false
+  unfolding rowErased
+  not-erased a cells =
+      rw (no-program, no-id, second-fails (inProgram chip a && not (locked chip cells)) (false && eqb ((chip .words + k) / chip .row) (a / chip .row)) refl)
+      (second-fails (atErase chip a && chip .rowErasesIds) false refl)
+
+  not-wiped : (a : ℕ) → bulkErased chip a (chip .words + k) ≡ false
+  unfolding bulkErased
+  not-wiped a = rw (no-program, no-config, no-id) (second-fails (atErase chip a) false refl)
+
+  not-written : (a : ℕ) (cells : List ℕ) → beginWritten chip a cells (chip .words + k) ≡ false
+  unfolding beginWritten
+  not-written a cells =
+      rw (no-program, second-fails (inProgram chip a && not (locked chip cells)) (false && eqb ((chip .words + k) / chip .group) (a / chip .group)) refl)
+      (by (ℕ-discrete (chip .words + k) (chip .cell a)))
+    where
+      by : Dec (chip .words + k ≡ chip .cell a) → (leb (chip .base) a && chip .isWritable (chip .cell a - chip .words) && eqb (chip .words + k) (chip .cell a)) ≡ false
+      by (yes e) = middle-fails (leb (chip .base) a) (chip .isWritable (chip .cell a - chip .words)) (eqb (chip .words + k) (chip .cell a)) (rw (← e, back) fixed)
+      by (no h) = last-fails (leb (chip .base) a) (chip .isWritable (chip .cell a - chip .words)) (eqb (chip .words + k) (chip .cell a)) (ne-eqb (chip .words + k) (chip .cell a) h)
+
+  -- a word of configuration space that no write changes
+  pub never-changes : (o : Order) (t : Target) → getD (effect chip o t .target .cells) (chip .words + k) 0 ≡ getD (t .cells) (chip .words + k) 0
+  never-changes o t =
+      any-order chip t (λ c. getD c (chip .words + k) 0 ≡ getD (t .cells) (chip .words + k) 0)
+      (record {
+        stay = refl;
+        begin = edit-kept _ _ (t .cells) (chip .words + k) (not-written (place t) (t .cells));
+        bulk = edit-kept _ _ (t .cells) (chip .words + k) (not-wiped (place t));
+        row = edit-kept _ _ (t .cells) (chip .words + k) (not-erased (place t) (t .cells));
+      })
+      o
+
+-- in this family: reserved, revision, device ID and calibration words
+pub others-never-change : (d : Device) → Rules d → (i : ℕ) → programmable (d .words) i ≡ false → (o : Order) (t : Target) → getD (effect (chipOf d) o t .target .cells) i 0 ≡ getD (t .cells) i 0
+unfolding programmable
+others-never-change d r i e o t = by (decLt i (d .words))
   where
-    sum : x .registers .counter .0 + 1 + n ≡ x .registers .counter .0 + suc n
-    sum = omega arith
-
-    next : counterAfter (chipOf d) Increment (x .registers .counter .0) ≡ x .registers .counter .0 + 1
-    next = opened ∙ successor-config 0x8000 (x .registers .counter .0) p (omega arith)
-      where
-        opened : counterAfter (chipOf d) Increment (x .registers .counter .0) ≡ successor 0x8000 (x .registers .counter .0)
-        opened = unfold counterAfter chipOf in refl
-
-    one : boardOf (chipOf d) .step Increment x ≡ record { registers = record { counter = record { 0 = x .registers .counter .0 + 1 }; latches = x .registers .latches }; cells = x .cells }
-    one = opened ∙ (λ i. record { registers = record { counter = record { 0 = next i }; latches = x .registers .latches }; cells = x .cells })
-      where
-        opened : boardOf (chipOf d) .step Increment x ≡ record { registers = record { counter = record { 0 = counterAfter (chipOf d) Increment (x .registers .counter .0) }; latches = x .registers .latches }; cells = x .cells }
-        opened = unfold registersAfter latchesAfter cellsAfter in refl
+    by : Dec (i < d .words) → getD (effect (chipOf d) o t .target .cells) i 0 ≡ getD (t .cells) i 0
+    by (yes h) = absurd (true-not-false {b = true} refl (rw (lt-ltb i (d .words) h) at e))
+    by (no h) =
+        let at-it : d .words + (i - d .words) ≡ i = omega arith in
+        subst (λ j. getD (effect (chipOf d) o t .target .cells) j 0 ≡ getD (t .cells) j 0) at-it
+        (never-changes (chipOf d) (sound-chip d r) (i - d .words) (rw (le-ltb i (d .words) (omega arith)) at e) o t)
 
 -- ---- the latches
 
 -- Begin puts every latch back, also where nothing was written
-pub begin-latches : (d : Device) (a : ℕ) (latches : List ℕ) → latchesAfter (chipOf d) Begin a latches ≡ replicate 32 erased
-unfolding latchesAfter blank chipOf
-begin-latches d a latches = refl
+pub begin-latches : (chip : Chip) (t : Target) → effect chip Begin t .target .registers .latches ≡ blank chip
+unfolding effect
+begin-latches chip t = refl
 
--- ---- words that never change
+-- ---- the counter
 
-module _ (d : Device) (r : Rules d) (i : ℕ) (past : d .words + 4 ≤ i) (other : inRange (d .words + 7) 2 i ≡ false) where
-  no-id : idCell (chipOf d) i ≡ false
-  no-id = id-cell d i ∙ above-range (d .words) 4 i past
-
-  no-program : inProgram (chipOf d) i ≡ false
-  no-program = not-program d i (omega arith)
-
-  not-erased : (a : ℕ) (cells : List ℕ) → rowErased (chipOf d) a cells i ≡ false
-  unfolding rowErased
-  not-erased a cells =
-      rw (no-program, no-id, second-fails (inProgram (chipOf d) a && not (protected (chipOf d) cells)) (false && eqb (i / chipOf d .row) (a / chipOf d .row)) refl)
-      (second-fails (atErase (chipOf d) a && chipOf d .rowErasesIds) false refl)
-
-  not-wiped : (a : ℕ) → bulkErased (chipOf d) a i ≡ false
-  unfolding bulkErased
-  not-wiped a = rw (no-program, config-cell d i, other, no-id) (second-fails (atErase (chipOf d) a) false refl)
-
-  not-written : (a : ℕ) (cells : List ℕ) → written (chipOf d) a cells i ≡ false
-  not-written a cells = by (decLt a (d .words)) (decLt a 0x8000) (protected (chipOf d) cells) refl (canWrite (a - 0x8000)) refl
+module _ (chip : Chip) (words : List ℕ) where
+  walks : (n : ℕ) (t : Target) → ((a : ℕ) → place t ≤ a → a < place t + n → successor (chip .base) a ≡ a + 1) → runs (boardOf chip words) (replicate n Increment) t ≡ moved (place t + n) t
+  walks zero t up = λ i. moved (sym (add-zero (place t)) i) t
+  walks (suc n) t up =
+      ap (runs (boardOf chip words) (replicate n Increment)) one
+      ∙ (walks n (moved (place t + 1) t) (λ a p q. up a (omega arith) (omega arith)) ∙ (λ i. moved (sum i) t))
     where
-      outside : (q : ℕ) → q * d .row + d .row ≤ d .words → inRange (q * d .row) (d .row) i ≡ false
-      outside q h = above-range (q * d .row) (d .row) i (omega arith)
+      sum : place t + 1 + n ≡ place t + suc n
+      sum = omega arith
 
-      by : Dec (a < d .words) → Dec (a < 0x8000) → (b : Bool) → protected (chipOf d) cells ≡ b → (c : Bool) → canWrite (a - 0x8000) ≡ c → written (chipOf d) a cells i ≡ false
-      by (yes h) q true y c z = written-protected d r a cells i h y
-      by (yes h) q false y c z = written-program d r a cells i h y ∙ outside (a / d .row) (row-within d r a h)
-      by (no h) (yes q) b y c z = written-between d r a cells i (omega arith) q
-      by (no h) (no q) b y false z = written-not d r a cells i (omega arith) z
-      by (no h) (no q) b y true z = written-one d r a cells i (omega arith) z ∙ ne-eqb i (d .words + (a - 0x8000)) apart
+      one : effect chip Increment t .target ≡ moved (place t + 1) t
+      one = opened ∙ (λ i. moved (up (place t) (omega arith) (omega arith) i) t)
         where
-          apart : i ≡ d .words + (a - 0x8000) → ⊥
-          apart e = true-not-false z (cannot-write (a - 0x8000) (omega arith) (moved (decLt (a - 0x8000) 7) (decLt (a - 0x8000) 9)))
-            where
-              moved : Dec (a - 0x8000 < 7) → Dec (a - 0x8000 < 9) → inRange 7 2 (a - 0x8000) ≡ false
-              moved (yes u) v = below-range 7 2 (a - 0x8000) u
-              moved (no u) (yes v) = absurd (true-not-false (in-range (d .words + 7) 2 i (omega arith) (omega arith)) other)
-              moved (no u) (no v) = above-range 7 2 (a - 0x8000) (omega arith)
+          opened : effect chip Increment t .target ≡ moved (successor (chip .base) (place t)) t
+          opened = unfold effect in refl
 
-  -- reserved, revision, device ID and calibration words
-  pub never-changes : (o : Order) (a : ℕ) (latches cells : List ℕ) → getD (cellsAfter (chipOf d) o a latches cells) i 0 ≡ getD cells i 0
-  unfolding cellsAfter
-  never-changes (LoadConfiguration w) a latches cells = refl
-  never-changes (LoadData w) a latches cells = refl
-  never-changes Read a latches cells = refl
-  never-changes Increment a latches cells = refl
-  never-changes ResetAddress a latches cells = refl
-  never-changes Begin a latches cells = edit-kept (written (chipOf d) a cells) (burnt (chipOf d) a latches cells) cells i (not-written a cells)
-  never-changes BulkErase a latches cells = edit-kept (bulkErased (chipOf d) a) (λ k. erased) cells i (not-wiped a)
-  never-changes RowErase a latches cells = edit-kept (rowErased (chipOf d) a cells) (λ k. erased) cells i (not-erased a cells)
+  -- n Increments within program space
+  pub walk-program : (n : ℕ) (t : Target) → place t + n < chip .base → runs (boardOf chip words) (replicate n Increment) t ≡ moved (place t + n) t
+  walk-program n t h = walks n t (λ a p q. successor-program (chip .base) a (omega arith))
+
+  -- n Increments within configuration space
+  pub walk-config : (n : ℕ) (t : Target) → chip .base ≤ place t → place t + n < 2 * chip .base → runs (boardOf chip words) (replicate n Increment) t ≡ moved (place t + n) t
+  walk-config n t low h = walks n t (λ a p q. successor-config (chip .base) a (omega arith) (omega arith))

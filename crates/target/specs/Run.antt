@@ -1,65 +1,51 @@
--- A run: entry, and then steps in turn, as many as it may take (13, 32, 34, then each step's own refusal).
-use Prim.Native.Nat.{ℕ, zero, suc, _+_, _*_, _/_, _%_, min}
+-- A run of this family's model, and the call for it (13, 32, 34, then each step's own refusal).
+use Prim.Native.Nat.{ℕ, _%_}
 use mathlib.Core.Path.{_≡_}
 use mathlib.Core.List.{List}
 use lib.Dec.{eqb}
-use lib.ListN.{length, getD}
-use Rattle.words.specs.Choice.{pick}
+use lib.ListN.{length}
+use Rattle.words.specs.Choice.{pick, unless}
 use Rattle.device.specs.declared.Device.{Device}
 use Rattle.device.specs.Record.{deviceOk}
 use Rattle.target.specs.Chip.{Chip, chipOf}
-use Rattle.target.specs.Effects.{entered}
-use Rattle.target.specs.Step.{Target, refusal, advanced, decoded, fresh, soundCells}
-use Rattle.target.specs.declared.Decoded.{Decoded}
+use Rattle.target.specs.Effects.{blank}
+use Rattle.target.specs.Model.{Model, Run, runOf}
+use Rattle.target.specs.Step.{Target, stepEffect, decoded, unread, soundCells}
+use Rattle.target.specs.declared.Registers.{Registers}
 use Rattle.target.specs.declared.Ran.{Ran}
 
--- step k of a stream: code, payload low, payload high
-unfoldable pub stepAt : List ℕ → ℕ → Decoded
-stepAt stream k = decoded (getD stream (3 * k) 0) (getD stream (3 * k + 1) 0 + 256 * getD stream (3 * k + 2) 0)
-
--- where a run stands: its target, the steps completed, and the refusal that stopped it, or 0
-pub record Run : Type 0 where
-  pub target : Target
-  pub done : ℕ
-  pub number : ℕ
-
--- the next step, if no step was refused
-unfoldable pub turn : Chip → List ℕ → Run → Run
-turn chip stream r =
-    pick (eqb (r .number) 0)
-    (record {
-      target = advanced chip (stepAt stream (r .done)) (r .target);
-      done = r .done + pick (eqb (refusal chip (stepAt stream (r .done)) (r .target)) 0) 1 0;
-      number = refusal chip (stepAt stream (r .done)) (r .target);
-    })
-    r
-
--- the run after n turns
-unfoldable pub after : Chip → List ℕ → Run → ℕ → Run
-after chip stream r zero = r
-after chip stream r (suc n) = turn chip stream (after chip stream r n)
-
--- a run begins with entry
-unfoldable pub begun : Chip → (cells words : List ℕ) → Run
-begun chip cells words = record { target = fresh (entered chip) cells words; done = 0; number = 0 }
-
--- it may take so many steps, and the stream has so many
-unfoldable pub ranOn : Device → (stream : List ℕ) → (allowance : ℕ) → (cells words : List ℕ) → Run
-ranOn d stream allowance cells words =
-    after (chipOf d) stream (begun (chipOf d) cells words) (min allowance (length stream / 3))
+-- entry: the counter at 0 and every latch at 3FFFh
+unfoldable pub entered : Chip → Registers
+entered chip = record { counter = record { 0 = 0 }; latches = blank chip }
 
 -- what stops a run before its first step
 unfoldable pub runRefusal : Device → (stream cells : List ℕ) → ℕ
 runRefusal d stream cells =
-    pick (deviceOk d) (pick (soundCells d cells) (pick (eqb (length stream % 3) 0) 0 34) 32) 13
+    unless (deviceOk d) 13
+    (unless (soundCells (chipOf d) cells) 32
+    (unless (eqb (length stream % 3) 0) 34
+    0))
 
-unfoldable pub ran : Device → (stream : List ℕ) → (allowance : ℕ) → (cells words : List ℕ) → Run
-ran d stream allowance cells words =
-    pick (eqb (runRefusal d stream cells) 0) (ranOn d stream allowance cells words)
-    (record { target = fresh (entered (chipOf d)) cells words; done = 0; number = runRefusal d stream cells })
+-- a model of any chip, for runs that something judges
+abbrev pub modelOn : Chip → (judges : (stream cells : List ℕ) → ℕ) → Model
+modelOn chip judges =
+    record {
+      Target = Target;
+      cells = λ t. t .cells;
+      entry = λ cells words. unread (entered chip) cells words;
+      judges = judges;
+      step = λ code payload t. stepEffect chip (decoded code payload) t;
+    }
+
+-- this family's
+abbrev pub modelOf : Device → Model
+modelOf d = modelOn (chipOf d) (runRefusal d)
+
+unfoldable pub ran : Device → (stream : List ℕ) → (allowance : ℕ) → (cells words : List ℕ) → Run Target
+ran d stream allowance cells words = runOf (modelOf d) stream allowance cells words
 
 -- what the call answers: the number, the steps completed and, without refusal, how many words were read
-unfoldable pub answered : Run → Ran
+unfoldable pub answered : Run Target → Ran
 answered r = record { number = r .number; steps = r .done; words = pick (eqb (r .number) 0) (r .target .read) 0 }
 
 -- what a run promises: its answer, the words read and the cells afterwards

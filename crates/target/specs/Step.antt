@@ -1,18 +1,19 @@
--- A step's code and payload, and its refusals ('Steps of the target'; 30, 31, 33, 35).
-use Prim.Native.Nat.{ℕ, _+_, _-_, _/_, _%_}
+-- A step's code and payload, what each order does, and the call for a single step ('Steps of the target'; 13, 30, 31, 32, 33, 35).
+use Prim.Native.Nat.{ℕ, _+_, _/_, _%_}
 use mathlib.Core.Path.{_≡_}
 use mathlib.Core.Bool.{Bool, _&&_}
 use mathlib.Core.List.{List}
 use lib.Dec.{ltb, leb, eqb}
 use lib.ListN.{length, getD, set}
-use Rattle.words.specs.Choice.{pick}
-use Rattle.words.specs.Word.{isWord, wordsOf}
+use Rattle.words.specs.Choice.{pick, unless}
+use Rattle.words.specs.Word.{erased, isWord, wordsOf}
 use Rattle.words.specs.Lists.{every}
+use Rattle.words.specs.Address.{successor}
 use Rattle.device.specs.declared.Device.{Device}
 use Rattle.device.specs.Record.{deviceOk}
-use Rattle.device.specs.Memory.{cellsTail}
 use Rattle.target.specs.Chip.{Chip, chipOf}
-use Rattle.target.specs.Effects.{registersAfter, cellsAfter, wordRead}
+use Rattle.target.specs.Effects.{blank, edit, rowErased, bulkErased, beginWritten, burnt, wordRead}
+use Rattle.target.specs.Model.{Effect, done, stops}
 use Rattle.target.specs.declared.Order.{Order}
 use Rattle.target.specs.declared.Order.the-variants.{LoadConfiguration, LoadData, Read, Increment, ResetAddress, Begin, BulkErase, RowErase}
 use Rattle.target.specs.declared.Decoded.{Decoded}
@@ -26,11 +27,11 @@ unfoldable pub loadOk : ℕ → Bool
 loadOk payload = eqb (payload % 2) 0 && leb payload 0x7ffe
 
 unfoldable pub load : ℕ → Order → Decoded
-load payload o = pick (loadOk payload) (Do o) (Refused 31)
+load payload o = unless (loadOk payload) (Refused 31) (Do o)
 
 -- all others have 0
 unfoldable pub plain : ℕ → Order → Decoded
-plain payload o = pick (eqb payload 0) (Do o) (Refused 31)
+plain payload o = unless (eqb payload 0) (Refused 31) (Do o)
 
 -- the order that a code and a payload give, or 30 or 31
 unfoldable pub decoded : (code payload : ℕ) → Decoded
@@ -45,19 +46,7 @@ decoded code payload =
     (pick (eqb code 0x11) (plain payload RowErase)
     (Refused 30))))))))
 
--- ---- an order that is refused: 33 for Bulk Erase past the words at which it acts, 35 for Read with no room for its word
-
-unfoldable pub orderNumber : Chip → Order → (a room : ℕ) → ℕ
-orderNumber chip (LoadConfiguration w) a room = 0
-orderNumber chip (LoadData w) a room = 0
-orderNumber chip Read a room = pick (eqb room 0) 35 0
-orderNumber chip Increment a room = 0
-orderNumber chip ResetAddress a room = 0
-orderNumber chip Begin a room = 0
-orderNumber chip BulkErase a room = pick (ltb (chip .base + chip .last) a) 33 0
-orderNumber chip RowErase a room = 0
-
--- ---- one step of a machine whose cells and latches are sound
+-- ---- the target that steps work on
 
 -- registers, cells, the words read and how many they are
 pub record Target : Type 0 where
@@ -66,81 +55,65 @@ pub record Target : Type 0 where
   pub words : List ℕ
   pub read : ℕ
 
--- the word read goes to the next place of the buffer
-unfoldable pub wordsAfter : Chip → Order → Target → List ℕ
-wordsAfter chip (LoadConfiguration w) t = t .words
-wordsAfter chip (LoadData w) t = t .words
-wordsAfter chip Read t = set (t .words) (t .read) (wordRead chip (t .registers .counter .0) (t .cells))
-wordsAfter chip Increment t = t .words
-wordsAfter chip ResetAddress t = t .words
-wordsAfter chip Begin t = t .words
-wordsAfter chip BulkErase t = t .words
-wordsAfter chip RowErase t = t .words
+-- where the counter stands
+abbrev pub place : Target → ℕ
+place t = t .registers .counter .0
 
-unfoldable pub readAfter : Order → ℕ → ℕ
-readAfter (LoadConfiguration w) n = n
-readAfter (LoadData w) n = n
-readAfter Read n = n + 1
-readAfter Increment n = n
-readAfter ResetAddress n = n
-readAfter Begin n = n
-readAfter BulkErase n = n
-readAfter RowErase n = n
+-- the target with another counter, with other latches, with other cells, with one word more read
+abbrev pub moved : ℕ → Target → Target
+moved a t = record { registers = record { counter = record { 0 = a }; latches = t .registers .latches }; cells = t .cells; words = t .words; read = t .read }
 
-unfoldable pub targetAfter : Chip → Order → Target → Target
-targetAfter chip o t =
-    record {
-      registers = registersAfter chip o (t .registers);
-      cells = cellsAfter chip o (t .registers .counter .0) (t .registers .latches) (t .cells);
-      words = wordsAfter chip o t;
-      read = readAfter o (t .read);
-    }
+abbrev pub latched : List ℕ → Target → Target
+latched latches t = record { registers = record { counter = t .registers .counter; latches = latches }; cells = t .cells; words = t .words; read = t .read }
 
--- ---- a step's refusal and what it leaves
+abbrev pub changed : List ℕ → Target → Target
+changed cells t = record { registers = t .registers; cells = cells; words = t .words; read = t .read }
 
--- the places that are left in the buffer
-unfoldable pub room : Target → ℕ
-room t = length (t .words) - t .read
+abbrev pub taken : ℕ → Target → Target
+taken word t = record { registers = t .registers; cells = t .cells; words = set (t .words) (t .read) word; read = t .read + 1 }
 
-unfoldable pub refusal : Chip → Decoded → Target → ℕ
-refusal chip (Do o) t = orderNumber chip o (t .registers .counter .0) (room t)
-refusal chip (Refused n) t = n
+-- ---- what each order does
 
--- the target after a step: as it was, if the step is refused
-unfoldable pub obeyed : Chip → Order → Target → Target
-obeyed chip o t = pick (eqb (orderNumber chip o (t .registers .counter .0) (room t)) 0) (targetAfter chip o t) t
+unfoldable pub effect : Chip → Order → Target → Effect Target
+effect chip (LoadConfiguration w) t = done (latched (set (t .registers .latches) 0 w) (moved (chip .base) t))
+effect chip (LoadData w) t = done (latched (set (t .registers .latches) (place t % chip .group) w) t)
+effect chip Read t = unless (ltb (t .read) (length (t .words))) (stops 35 t) (done (taken (wordRead chip (place t) (t .cells)) t))
+effect chip Increment t = done (moved (successor (chip .base) (place t)) t)
+effect chip ResetAddress t = done (latched (pick (chip .resetBlanks) (blank chip) (t .registers .latches)) (moved 0 t))
+effect chip Begin t =
+    done (latched (blank chip) (changed (edit (beginWritten chip (place t) (t .cells)) (burnt chip (place t) (t .registers .latches) (t .cells)) (t .cells)) t))
+effect chip BulkErase t =
+    unless (ltb (place t) (chip .base + chip .readingTail)) (stops 33 t) (done (changed (edit (bulkErased chip (place t)) (λ i. erased) (t .cells)) t))
+effect chip RowErase t = done (changed (edit (rowErased chip (place t) (t .cells)) (λ i. erased) (t .cells)) t)
 
-unfoldable pub advanced : Chip → Decoded → Target → Target
-advanced chip (Do o) t = obeyed chip o t
-advanced chip (Refused n) t = t
+-- what a step does: nothing, with its number, if its code or payload is refused
+unfoldable pub stepEffect : Chip → Decoded → Target → Effect Target
+stepEffect chip (Do o) t = effect chip o t
+stepEffect chip (Refused n) t = stops n t
 
 -- ---- the call for a single step: 13, 32, then the step's own refusal
 
 -- the cells are words, as many as the chip has, and so are the latches that count
-unfoldable pub soundCells : Device → List ℕ → Bool
-soundCells d cells = wordsOf (d .words + cellsTail) cells
+unfoldable pub soundCells : Chip → List ℕ → Bool
+soundCells chip cells = wordsOf (chip .words + chip .cellsTail) cells
 
-unfoldable pub soundLatches : Device → List ℕ → Bool
-soundLatches d latches = every (d .row) (λ i. isWord (getD latches i 0))
+unfoldable pub soundLatches : Chip → List ℕ → Bool
+soundLatches chip latches = every (chip .group) (λ i. isWord (getD latches i 0))
 
-unfoldable pub stepNumber : Device → (code payload : ℕ) → Target → ℕ
-stepNumber d code payload t =
-    pick (deviceOk d)
-    (pick (soundCells d (t .cells))
-    (pick (soundLatches d (t .registers .latches))
-    (refusal (chipOf d) (decoded code payload) t)
-    32) 32) 13
+unfoldable pub stepped : Device → (code payload : ℕ) → Target → Effect Target
+stepped d code payload t =
+    unless (deviceOk d) (stops 13 t)
+    (unless (soundCells (chipOf d) (t .cells)) (stops 32 t)
+    (unless (soundLatches (chipOf d) (t .registers .latches)) (stops 32 t)
+    (stepEffect (chipOf d) (decoded code payload) t)))
 
-unfoldable pub stepTarget : Device → (code payload : ℕ) → Target → Target
-stepTarget d code payload t = pick (eqb (stepNumber d code payload t) 0) (advanced (chipOf d) (decoded code payload) t) t
-
--- a target whose buffer for words read is empty
-unfoldable pub fresh : Registers → (cells words : List ℕ) → Target
-fresh r cells words = record { registers = r; cells = cells; words = words; read = 0 }
+-- a target with no word read yet
+unfoldable pub unread : Registers → (cells words : List ℕ) → Target
+unread r cells words = record { registers = r; cells = cells; words = words; read = 0 }
 
 -- what a single step promises: its number, the registers, the words read and the cells afterwards
 pub record Steps (d : Device) (r : Registers) (code payload : ℕ) (words cells : List ℕ) (number : ℕ) (r′ : Registers) (words′ cells′ : List ℕ) : Type 0 where
-  pub answers : number ≡ stepNumber d code payload (fresh r cells words)
-  pub registers : r′ ≡ stepTarget d code payload (fresh r cells words) .registers
-  pub words-read : words′ ≡ stepTarget d code payload (fresh r cells words) .words
-  pub cells-left : cells′ ≡ stepTarget d code payload (fresh r cells words) .cells
+  pub answers : number ≡ stepped d code payload (unread r cells words) .number
+  pub registers : r′ ≡ stepped d code payload (unread r cells words) .target .registers
+  pub words-read : words′ ≡ stepped d code payload (unread r cells words) .target .words
+  pub cells-left : cells′ ≡ stepped d code payload (unread r cells words) .target .cells

@@ -1,5 +1,9 @@
 // What each order does to the cells, and the word that is read.
+use device::CELLS_TAIL;
 use device::Device;
+use device::IDS;
+use device::READING_TAIL;
+use words::CONFIG_BASE;
 use words::ERASED;
 use words::WordAddress;
 ghost use mathlib.Core.Path.{_≡_};
@@ -8,118 +12,103 @@ ghost use lib.Bits.{bitAnd};
 ghost use lib.ListN.{length, getD};
 ghost use Rattle.words.specs.Word.{erased};
 ghost use Rattle.words.specs.Lists.{overlay};
+ghost use Rattle.device.specs.Memory.{cellsTail};
 ghost use Rattle.device.specs.LawsRecord.{Rules};
 ghost use Rattle.target.specs.Chip.{chipOf};
-ghost use Rattle.target.specs.Effects.{protected, edit, rowErased, bulkErased, written, burnt, wordRead};
-ghost use Rattle.target.specs.LawsHits.{canWrite};
+ghost use Rattle.target.specs.Effects.{edit, rowErased, bulkErased, beginWritten, burnt, wordRead};
 
-const BASE: usize = 0x8000;
-
-const LAST_ERASE: usize = 0x8008;
+// Where the words end at which an erase acts.
+pub(crate) const ERASE_END: u16 = CONFIG_BASE + (READING_TAIL as u16);
 
 // The word that Read answers: 0 for a program word while protected, and for a word that does not exist.
 pub(crate) fn word_at(d: Device, at: WordAddress, cells: &[u16]) -> u16
     requires { ⌜ Rules d ⌝ }
-    requires { ⌜ length (now cells) ≡ d .words + 11 ⌝ }
+    requires { ⌜ length (now cells) ≡ d .words + cellsTail ⌝ }
     ensures { λ r. ⌜ r ≡ wordRead (chipOf d) (at .0) (now (cells .entry)) ⌝ }
 {
     if at.0 < d.words {
-        if is_protected(d, cells) {
+        if device::is_protected(d.words, cells) {
             return 0;
         }
         return cells[at.0 as usize];
     }
-    let i = words::address::entry_of(WordAddress(0x8000), d.words, 11, at);
+    let i = cell_of(d, at);
     if i < cells.len() { cells[i] } else { 0 }
 }
 
-fn is_protected(d: Device, cells: &[u16]) -> bool
-    requires { ⌜ length (now cells) ≡ d .words + 11 ⌝ }
-    ensures { λ r. ⌜ r ≡ protected (chipOf d) (now (cells .entry)) ⌝ }
+// The cell that an address has; P+11 where it has none.
+fn cell_of(d: Device, at: WordAddress) -> usize
+    ensures { λ r. ⌜ r ≡ chipOf d .cell (at .0) ⌝ }
 {
-    let cp = (d.words as usize) + 7;
-    cells[cp] / 128 % 2 == 0
+    words::address::entry_of(WordAddress(CONFIG_BASE), d.words, CELLS_TAIL as u8, at)
 }
 
 // Row Erase.
 pub(crate) fn erase_row(d: Device, at: WordAddress, cells: &mut [u16])
     requires { ⌜ Rules d ⌝ }
-    requires { ⌜ length (now cells) ≡ d .words + 11 ⌝ }
+    requires { ⌜ length (now cells) ≡ d .words + cellsTail ⌝ }
     ensures { λ _. ⌜ now (cells .exit) ≡ edit (rowErased (chipOf d) (at .0) (now (cells .entry))) (λ i. erased) (now (cells .entry)) ⌝ }
 {
     let program = d.words as usize;
     let row = d.row as usize;
     let a = at.0 as usize;
     if a < program {
-        if is_protected(d, cells) {
+        if device::is_protected(d.words, cells) {
             return;
         }
         erase(cells, a / row * row, row);
         return;
     }
-    if a < BASE {
+    if at.0 < CONFIG_BASE {
         return;
     }
-    if LAST_ERASE < a {
+    if ERASE_END <= at.0 {
         return;
     }
-    erase(cells, program, 4);
+    erase(cells, program, IDS);
 }
 
 // Bulk Erase, where it is not refused.
 pub(crate) fn erase_all(d: Device, at: WordAddress, cells: &mut [u16])
     requires { ⌜ Rules d ⌝ }
-    requires { ⌜ length (now cells) ≡ d .words + 11 ⌝ }
+    requires { ⌜ length (now cells) ≡ d .words + cellsTail ⌝ }
     ensures { λ _. ⌜ now (cells .exit) ≡ edit (bulkErased (chipOf d) (at .0)) (λ i. erased) (now (cells .entry)) ⌝ }
 {
     let program = d.words as usize;
-    let a = at.0 as usize;
     erase(cells, 0, program);
     erase(cells, program + 7, 2);
-    if a < BASE {
+    if at.0 < CONFIG_BASE {
         return;
     }
-    if LAST_ERASE < a {
+    if ERASE_END <= at.0 {
         return;
     }
-    erase(cells, program, 4);
+    erase(cells, program, IDS);
 }
 
 // Begin.
 pub(crate) fn write_at(d: Device, at: WordAddress, latches: &[u16; 32], cells: &mut [u16])
     requires { ⌜ Rules d ⌝ }
-    requires { ⌜ length (now cells) ≡ d .words + 11 ⌝ }
-    ensures { λ _. ⌜ now (cells .exit) ≡ edit (written (chipOf d) (at .0) (now (cells .entry))) (burnt (chipOf d) (at .0) (now (latches .entry)) (now (cells .entry))) (now (cells .entry)) ⌝ }
+    requires { ⌜ length (now cells) ≡ d .words + cellsTail ⌝ }
+    ensures { λ _. ⌜ now (cells .exit) ≡ edit (beginWritten (chipOf d) (at .0) (now (cells .entry))) (burnt (chipOf d) (at .0) (now (latches .entry)) (now (cells .entry))) (now (cells .entry)) ⌝ }
 {
     let program = d.words as usize;
     let row = d.row as usize;
     let a = at.0 as usize;
     if a < program {
-        if is_protected(d, cells) {
+        if device::is_protected(d.words, cells) {
             return;
         }
         write_row(latches, row, a / row, cells);
         return;
     }
-    if a < BASE {
+    if at.0 < CONFIG_BASE {
         return;
     }
-    if can_write(a - BASE) {
-        let i = program + (a - BASE);
+    let i = cell_of(d, at);
+    if device::programmable(d.words, i) {
         cells[i] = cells[i] & latches[a % row];
     }
-}
-
-fn can_write(k: usize) -> bool
-    ensures { λ r. ⌜ r ≡ canWrite k ⌝ }
-{
-    if k < 4 {
-        return true;
-    }
-    if k < 7 {
-        return false;
-    }
-    k < 9
 }
 
 // Each word of a row becomes itself AND its latch.

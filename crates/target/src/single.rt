@@ -3,6 +3,7 @@ use crate::Decoded;
 use crate::Order;
 use crate::Registers;
 use crate::Stepped;
+use crate::cells::ERASE_END;
 use crate::cells::erase_all;
 use crate::cells::erase_row;
 use crate::cells::word_at;
@@ -10,6 +11,7 @@ use crate::cells::write_at;
 use crate::decode::decode;
 use crate::effects::load_latch;
 use crate::effects::next_address;
+use device::CELLS_TAIL;
 use device::Device;
 use words::CONFIG_BASE;
 use words::ERASED;
@@ -18,9 +20,11 @@ use words::WordAddress;
 ghost use mathlib.Core.Path.{_≡_};
 ghost use Prim.Native.Nat.{_+_, _≤_};
 ghost use lib.ListN.{length};
+ghost use Rattle.device.specs.Memory.{cellsTail};
 ghost use Rattle.device.specs.LawsRecord.{Rules};
-ghost use Rattle.target.specs.Step.{decoded, soundLatches, Steps};
-ghost use Rattle.target.specs.LawsStep.{held, Obeys, Advances};
+ghost use Rattle.target.specs.Chip.{chipOf};
+ghost use Rattle.target.specs.Step.{decoded, effect, stepEffect, soundLatches, Steps};
+ghost use Rattle.target.specs.LawsStep.{target, held, Leaves};
 ghost use Rattle.target.specs.LawsOrders.{Fetches, ErasesAll};
 
 // What an order leaves beside the latches, the cells and the words: its refusal or 0, the counter, and how many words are read.
@@ -47,7 +51,7 @@ pub fn step(
             registers: r,
         };
     }
-    if words::list::is_words(cells, (d.words as usize) + 11) {} else {
+    if words::list::is_words(cells, (d.words as usize) + CELLS_TAIL) {} else {
         return Stepped {
             number: 32,
             registers: r,
@@ -82,8 +86,8 @@ pub(crate) fn perform(
     cells: &mut [u16],
 ) -> Obeyed
     requires { ⌜ Rules d ⌝ }
-    requires { ⌜ (length (now cells) ≡ d .words + 11) × (read ≤ length (now words)) ⌝ }
-    ensures { λ o. ⌜ Advances d (decoded code payload) (held at (now (latches .entry))) read (now (words .entry)) (now (cells .entry)) (o .number) (held (o .counter) (now (latches .exit))) (o .read) (now (words .exit)) (now (cells .exit)) ⌝ }
+    requires { ⌜ (length (now cells) ≡ d .words + cellsTail) × (read ≤ length (now words)) ⌝ }
+    ensures { λ o. ⌜ Leaves (stepEffect (chipOf d) (decoded code payload) (target (held at (now (latches .entry))) read (now (words .entry)) (now (cells .entry)))) (o .number) (held (o .counter) (now (latches .exit))) (o .read) (now (words .exit)) (now (cells .exit)) ⌝ }
 {
     match decode(code, payload) {
         Decoded::Refused(number) => Obeyed {
@@ -105,8 +109,8 @@ fn obey(
     cells: &mut [u16],
 ) -> Obeyed
     requires { ⌜ Rules d ⌝ }
-    requires { ⌜ (length (now cells) ≡ d .words + 11) × (read ≤ length (now words)) ⌝ }
-    ensures { λ o. ⌜ Obeys d order (held at (now (latches .entry))) read (now (words .entry)) (now (cells .entry)) (o .number) (held (o .counter) (now (latches .exit))) (o .read) (now (words .exit)) (now (cells .exit)) ⌝ }
+    requires { ⌜ (length (now cells) ≡ d .words + cellsTail) × (read ≤ length (now words)) ⌝ }
+    ensures { λ o. ⌜ Leaves (effect (chipOf d) order (target (held at (now (latches .entry))) read (now (words .entry)) (now (cells .entry)))) (o .number) (held (o .counter) (now (latches .exit))) (o .read) (now (words .exit)) (now (cells .exit)) ⌝ }
 {
     match order {
         Order::LoadConfiguration(w) => {
@@ -147,8 +151,8 @@ fn done(counter: WordAddress, read: usize) -> Obeyed
 // The word read goes to the next place of the buffer; 35 where there is none.
 fn fetch(d: Device, at: WordAddress, read: usize, words: &mut [u16], cells: &[u16]) -> Obeyed
     requires { ⌜ Rules d ⌝ }
-    requires { ⌜ (length (now cells) ≡ d .words + 11) × (read ≤ length (now words)) ⌝ }
-    ensures { λ o. ⌜ Fetches d at read (now (words .entry)) (now (cells .entry)) (o .number) (o .counter) (o .read) (now (words .exit)) ⌝ }
+    requires { ⌜ (length (now cells) ≡ d .words + cellsTail) × (read ≤ length (now words)) ⌝ }
+    ensures { λ o. ⌜ Fetches (chipOf d) at read (now (words .entry)) (now (cells .entry)) (o .number) (o .counter) (o .read) (now (words .exit)) ⌝ }
 {
     if read == words.len() {
         return Obeyed {
@@ -165,10 +169,10 @@ fn fetch(d: Device, at: WordAddress, read: usize, words: &mut [u16], cells: &[u1
 // Bulk Erase; 33 past the words at which it acts.
 fn bulk_erase(d: Device, at: WordAddress, read: usize, cells: &mut [u16]) -> Obeyed
     requires { ⌜ Rules d ⌝ }
-    requires { ⌜ length (now cells) ≡ d .words + 11 ⌝ }
-    ensures { λ o. ⌜ ErasesAll d at read (now (cells .entry)) (o .number) (o .counter) (o .read) (now (cells .exit)) ⌝ }
+    requires { ⌜ length (now cells) ≡ d .words + cellsTail ⌝ }
+    ensures { λ o. ⌜ ErasesAll (chipOf d) at read (now (cells .entry)) (o .number) (o .counter) (o .read) (now (cells .exit)) ⌝ }
 {
-    if 0x8008 < at.0 {
+    if ERASE_END <= at.0 {
         return Obeyed {
             number: 33,
             counter: at,
@@ -182,7 +186,7 @@ fn bulk_erase(d: Device, at: WordAddress, read: usize, cells: &mut [u16]) -> Obe
 // Whether the latches that count are words.
 fn latches_ok(d: Device, latches: &[u16; 32]) -> bool
     requires { ⌜ Rules d ⌝ }
-    ensures { λ r. ⌜ r ≡ soundLatches d (now (latches .entry)) ⌝ }
+    ensures { λ r. ⌜ r ≡ soundLatches (chipOf d) (now (latches .entry)) ⌝ }
 {
     let row = d.row as usize;
     let mut i = 0;

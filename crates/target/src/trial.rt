@@ -2,15 +2,20 @@
 use crate::Ran;
 use crate::single::Obeyed;
 use crate::single::perform;
+use device::CELLS_TAIL;
 use device::Device;
 use words::ERASED;
 use words::WordAddress;
 ghost use mathlib.Core.Path.{_≡_};
 ghost use Prim.Native.Nat.{_+_, _*_, _≤_, _<_, min};
 ghost use lib.ListN.{length, getD};
+ghost use Rattle.device.specs.Memory.{cellsTail};
 ghost use Rattle.device.specs.LawsRecord.{Rules};
-ghost use Rattle.target.specs.Run.{stepAt, runRefusal, Runs};
-ghost use Rattle.target.specs.LawsStep.{held, Advances};
+ghost use Rattle.target.specs.Chip.{chipOf};
+ghost use Rattle.target.specs.Model.{codeAt, payloadAt};
+ghost use Rattle.target.specs.Step.{decoded, stepEffect};
+ghost use Rattle.target.specs.Run.{runRefusal, Runs};
+ghost use Rattle.target.specs.LawsStep.{target, held, Leaves};
 ghost use Rattle.target.specs.LawsRun.{Goes};
 
 // Runs a stream on a target: 13, 32 and 34 before the first step, and then the refusal of the step that stops it.
@@ -35,7 +40,7 @@ fn refusal_before(d: Device, cells: &[u16], stream: &[u8]) -> u8
     if device::judge(d) != 0 {
         return 13;
     }
-    if words::list::is_words(cells, (d.words as usize) + 11) {} else {
+    if words::list::is_words(cells, (d.words as usize) + CELLS_TAIL) {} else {
         return 32;
     }
     if stream.len() % 3 != 0 {
@@ -47,8 +52,8 @@ fn refusal_before(d: Device, cells: &[u16], stream: &[u8]) -> u8
 // The steps, in turn, on a target that has been judged.
 fn go(d: Device, cells: &mut [u16], stream: &[u8], steps: usize, words: &mut [u16]) -> Ran
     requires { ⌜ Rules d ⌝ }
-    requires { ⌜ (length (now cells) ≡ d .words + 11) × (3 * steps ≤ length (now stream)) ⌝ }
-    ensures { λ r. ⌜ Goes d (now (stream .entry)) steps (now (words .entry)) (now (cells .entry)) r (now (words .exit)) (now (cells .exit)) ⌝ }
+    requires { ⌜ (length (now cells) ≡ d .words + cellsTail) × (3 * steps ≤ length (now stream)) ⌝ }
+    ensures { λ r. ⌜ Goes (chipOf d) (runRefusal d) (now (stream .entry)) steps (now (words .entry)) (now (cells .entry)) r (now (words .exit)) (now (cells .exit)) ⌝ }
 {
     let mut counter = WordAddress(0);
     let mut latches = [ERASED; 32];
@@ -86,8 +91,8 @@ fn next_step(
     cells: &mut [u16],
 ) -> Obeyed
     requires { ⌜ Rules d ⌝ }
-    requires { ⌜ (length (now cells) ≡ d .words + 11) × (read ≤ length (now words)) × (3 * k + 3 ≤ length (now stream)) ⌝ }
-    ensures { λ o. ⌜ Advances d (stepAt (now (stream .entry)) k) (held at (now (latches .entry))) read (now (words .entry)) (now (cells .entry)) (o .number) (held (o .counter) (now (latches .exit))) (o .read) (now (words .exit)) (now (cells .exit)) ⌝ }
+    requires { ⌜ (length (now cells) ≡ d .words + cellsTail) × (read ≤ length (now words)) × (3 * k + 3 ≤ length (now stream)) ⌝ }
+    ensures { λ o. ⌜ Leaves (stepEffect (chipOf d) (decoded (codeAt (now (stream .entry)) k) (payloadAt (now (stream .entry)) k)) (target (held at (now (latches .entry))) read (now (words .entry)) (now (cells .entry)))) (o .number) (held (o .counter) (now (latches .exit))) (o .read) (now (words .exit)) (now (cells .exit)) ⌝ }
 {
     let first = 3 * k;
     perform(

@@ -1,10 +1,10 @@
 -- Laws of a run: the cells of a reading, what a run leaves of them, and its text.
-use Prim.Native.Nat.{ℕ, zero, suc, _+_, _-_, _/_, _≤_, _<_, min}
-use native.Mathlib.Nat.{min-le-left, zero-add, suc-add, not-suc-le-zero, le-of-suc-le-suc}
+use Prim.Native.Nat.{ℕ, zero, suc, _+_, _-_, _≤_, _<_}
+use native.Mathlib.Nat.{zero-add, suc-add, not-suc-le-zero, le-of-suc-le-suc}
 use native.Mathlib.Omega.{arith}
 use native.Mathlib.Decide.{decLt}
 use mathlib.Core.Path.{_≡_, refl, sym, ap, _∙_}
-use mathlib.Core.Bool.{Bool, true, false}
+use mathlib.Core.Bool.{true}
 use mathlib.Core.List.{List, [], _∷_, _++_}
 use lib.Dec.{eqb}
 use lib.ListN.{length, getD, take, drop, replicate, length-append, length-replicate, List·getD-append}
@@ -15,22 +15,21 @@ use Rattle.words.specs.Word.{erased}
 use Rattle.words.specs.LawsChoice.{pick-true, pick-false}
 use Rattle.words.specs.LawsWord.{words-long, words-each, words-of}
 use Rattle.device.specs.declared.Device.{Device}
-use Rattle.device.specs.Record.{deviceOk}
-use Rattle.device.specs.Memory.{readingOk}
+use Rattle.device.specs.Record.{mostWords, deviceOk}
+use Rattle.device.specs.Memory.{cellsTail, readingTail, readingOk}
 use Rattle.device.specs.LawsRecord.{rules}
 use Rattle.sheet.specs.declared.Written.{Written}
 use Rattle.sheet.specs.Sheet.{sheetText, sheetLength, written, writtenText}
 use Rattle.sheet.specs.LawsSheet.{length-sheet}
 use Rattle.target.specs.declared.Ran.{Ran}
-use Rattle.target.specs.declared.Order.{Order}
-use Rattle.target.specs.declared.Decoded.{Decoded}
-use Rattle.target.specs.declared.Decoded.the-variants.{Do, Refused}
 use Rattle.target.specs.Chip.{chipOf}
-use Rattle.target.specs.Effects.{entered, cellsAfter}
-use Rattle.target.specs.Step.{Target, orderNumber, room, targetAfter, obeyed, advanced, refusal, fresh, soundCells}
-use Rattle.target.specs.Run.{Run, stepAt, turn, after, begun, ranOn, runRefusal, ran, answered, Runs}
+use Rattle.target.specs.Model.{Run}
+use Rattle.target.specs.Step.{Target, decoded, unread, soundCells}
+use Rattle.target.specs.Run.{modelOf, ran, answered, Runs}
+use Rattle.target.specs.LawsChip.{burning}
+use Rattle.target.specs.LawsModel.{run-few, run-keeps}
 use Rattle.target.specs.LawsRun.{cells-long}
-use Rattle.target.specs.LawsKept.{length-after, fits-after}
+use Rattle.target.specs.LawsSound.{cells-stay}
 use Rattle.print.specs.Print.{refusedText}
 use Rattle.print.specs.LawsLines.{either-short}
 use Rattle.trials.specs.Trial.{mostSteps, cellsOf, played, playedText}
@@ -50,69 +49,70 @@ blank-rest (suc n) m = ap (λ k. drop (suc n) (replicate k erased)) (suc-add n m
 
 -- the most cells that a target has
 abbrev pub mostCells : ℕ
-mostCells = 8203
+mostCells = mostWords + cellsTail
 
 -- a reading over erased cells
 module _ (d : Device) (sound : deviceOk d ≡ true) (reading : List ℕ) (ok : readingOk (d .words) reading ≡ true) where
-  reading-long : length reading ≡ d .words + 9
-  reading-long = unfold readingOk in words-long (d .words + 9) reading ok
+  reading-long : length reading ≡ d .words + readingTail
+  reading-long = unfold readingOk in words-long (d .words + readingTail) reading ok
 
-  few : d .words ≤ 8192
+  few : d .words ≤ mostWords
   few = rules d sound .most
 
   pub copy-room : length reading ≤ length (replicate mostCells erased)
   copy-room = rw (length-replicate {A = ℕ} mostCells erased, reading-long) (omega (arith, few))
 
   module _ (cells : List ℕ) (e : cells ≡ sets (replicate mostCells erased) 0 reading) where
-    pub cells-room : d .words + 11 ≤ length cells
+    pub cells-room : d .words + cellsTail ≤ length cells
     cells-room =
         let size : length cells ≡ mostCells = ap length e ∙ (length-sets (replicate mostCells erased) 0 reading ∙ length-replicate {A = ℕ} mostCells erased) in
-        let most : d .words ≤ 8192 = few in
+        let most : d .words ≤ mostWords = few in
         omega arith
 
-    pub cells-part : length (take (d .words + 11) cells) ≡ d .words + 11
-    cells-part = length-take-le (d .words + 11) cells cells-room
+    pub cells-part : length (take (d .words + cellsTail) cells) ≡ d .words + cellsTail
+    cells-part = length-take-le (d .words + cellsTail) cells cells-room
 
-    pub cells-are : take (d .words + 11) cells ≡ cellsOf reading
+    pub cells-are : take (d .words + cellsTail) cells ≡ cellsOf reading
     unfolding cellsOf
     cells-are =
         let all : mostCells ≡ 0 + length reading + (8194 - d .words) = rw (zero-add, reading-long) (omega (arith, few)) in
         let two : 2 ≤ 8194 - d .words = omega (arith, few) in
-        let more : d .words + 11 ≡ length reading + 2 = rw reading-long (omega arith) in
+        let more : d .words + cellsTail ≡ length reading + 2 = rw reading-long (omega arith) in
         let fits : 0 + length reading ≤ length (replicate mostCells erased) = rw zero-add copy-room in
         let placed : cells ≡ reading ++ drop (0 + length reading) (replicate mostCells erased) = e ∙ sets-eq reading (replicate mostCells erased) 0 fits in
-        let rest : drop (0 + length reading) (replicate mostCells erased) ≡ replicate (8194 - d .words) erased = ap (λ k. drop (0 + length reading) (replicate k erased)) all ∙ blank-rest (0 + length reading) (8194 - d .words) in
-        ap (take (d .words + 11)) (placed ∙ ap (λ l. reading ++ l) rest)
+        let rest : drop (0 + length reading) (replicate mostCells erased) ≡ replicate (8194 - d .words) erased = ap (λ k. drop (0 + length reading) (replicate k erased)) all
+        ∙ blank-rest (0 + length reading) (8194 - d .words) in
+        ap (take (d .words + cellsTail)) (placed ∙ ap (λ l. reading ++ l) rest)
         ∙ (ap (λ n. take n (reading ++ replicate (8194 - d .words) erased)) more
         ∙ (take-append-add reading (replicate (8194 - d .words) erased) 2 ∙ ap (λ l. reading ++ l) (blank-part 2 (8194 - d .words) two)))
 
 -- a reading and two calibration words are sound cells
-cells-sound : (d : Device) (reading : List ℕ) → readingOk (d .words) reading ≡ true → (cells : List ℕ) → cells ≡ cellsOf reading → soundCells d cells ≡ true
+cells-sound : (d : Device) (reading : List ℕ) → readingOk (d .words) reading ≡ true → (cells : List ℕ) → cells ≡ cellsOf reading → soundCells (chipOf d) cells ≡ true
 unfolding soundCells cellsOf
-cells-sound d reading ok cells e = words-of (d .words + 11) cells long (λ i h. each i (decLt i (d .words + 9)))
+cells-sound d reading ok cells e = words-of (d .words + cellsTail) cells long (λ i h. each i (decLt i (d .words + readingTail)))
   where
-    nine : length reading ≡ d .words + 9
-    nine = unfold readingOk in words-long (d .words + 9) reading ok
+    nine : length reading ≡ d .words + readingTail
+    nine = unfold readingOk in words-long (d .words + readingTail) reading ok
 
-    long : length cells ≡ d .words + 11
+    long : length cells ≡ d .words + cellsTail
     long = ap length e ∙ (length-append reading (erased ∷ erased ∷ []) ∙ (rw nine (omega arith)))
 
     small : (i : ℕ) → getD reading i 0 < 0x4000
-    small = words-each (d .words + 9) reading (unfold readingOk in ok)
+    small = words-each (d .words + readingTail) reading (unfold readingOk in ok)
 
     two : (i : ℕ) → getD (erased ∷ erased ∷ []) i 0 < 0x4000
     two zero = omega arith
     two (suc zero) = omega arith
     two (suc (suc i)) = omega arith
 
-    each : (i : ℕ) → Dec (i < d .words + 9) → getD cells i 0 < 0x4000
+    each : (i : ℕ) → Dec (i < d .words + readingTail) → getD cells i 0 < 0x4000
     each i (yes h) =
         let s : getD reading i 0 < 0x4000 = small i in
         let same : getD cells i 0 ≡ getD reading i 0 =
         ap (λ l. getD l i 0) e ∙ List·getD-append reading (erased ∷ erased ∷ []) 0 i (rw nine h) in
         omega arith
     each i (no h) =
-        let k : ℕ = i - (d .words + 9) in
+        let k : ℕ = i - (d .words + readingTail) in
         let place : i ≡ length reading + k = rw nine (omega arith) in
         let s : getD (erased ∷ erased ∷ []) k 0 < 0x4000 = two k in
         let same : getD cells i 0 ≡ getD (erased ∷ erased ∷ []) k 0 =
@@ -121,103 +121,23 @@ cells-sound d reading ok cells e = words-of (d .words + 11) cells long (λ i h. 
 
 -- ---- what a run leaves
 
-module _ (d : Device) where
-  order-sound : (o : Order) (a : ℕ) (latches cells : List ℕ) → soundCells d cells ≡ true → soundCells d (cellsAfter (chipOf d) o a latches cells) ≡ true
-  unfolding soundCells
-  order-sound o a latches cells e =
-      words-of (d .words + 11) (cellsAfter (chipOf d) o a latches cells) (length-after (chipOf d) o a latches cells ∙ words-long (d .words + 11) cells e)
-      (λ i h. fits-after d o a latches cells (words-each (d .words + 11) cells e) i)
+module _ (d : Device) (stream : List ℕ) (allowance : ℕ) (cells words : List ℕ) where
+  ran-sound : soundCells (chipOf d) cells ≡ true → soundCells (chipOf d) (ran d stream allowance cells words .target .cells) ≡ true
+  unfolding ran unread
+  ran-sound e =
+      run-keeps (modelOf d) stream (λ t. soundCells (chipOf d) (t .cells) ≡ true)
+      (λ code payload t. cells-stay (chipOf d) (burning d) t (decoded code payload)) allowance cells words e
 
-  advanced-sound : (s : Decoded) (t : Target) → soundCells d (t .cells) ≡ true → soundCells d (advanced (chipOf d) s t .cells) ≡ true
-  unfolding advanced obeyed
-  advanced-sound (Do o) t e = by (eqb (orderNumber (chipOf d) o (t .registers .counter .0) (room t)) 0)
-    where
-      by : (b : Bool) → soundCells d (pick b (targetAfter (chipOf d) o t) t .cells) ≡ true
-      by true = unfold pick targetAfter in order-sound o (t .registers .counter .0) (t .registers .latches) (t .cells) e
-      by false = unfold pick in e
-  advanced-sound (Refused n) t e = e
-
-  module _ (stream : List ℕ) where
-    turn-sound : (r : Run) → soundCells d (r .target .cells) ≡ true → soundCells d (turn (chipOf d) stream r .target .cells) ≡ true
-    unfolding turn
-    turn-sound r e = by (eqb (r .number) 0)
-      where
-        next : Run
-        next =
-            record {
-              target = advanced (chipOf d) (stepAt stream (r .done)) (r .target);
-              done = r .done + pick (eqb (refusal (chipOf d) (stepAt stream (r .done)) (r .target)) 0) 1 0;
-              number = refusal (chipOf d) (stepAt stream (r .done)) (r .target);
-            }
-
-        by : (b : Bool) → soundCells d (pick b next r .target .cells) ≡ true
-        by true = unfold pick in advanced-sound (stepAt stream (r .done)) (r .target) e
-        by false = unfold pick in e
-
-    turn-one : (r : Run) → turn (chipOf d) stream r .done ≤ r .done + 1
-    unfolding turn
-    turn-one r = by (eqb (r .number) 0) (eqb (refusal (chipOf d) (stepAt stream (r .done)) (r .target)) 0)
-      where
-        next : Bool → Run
-        next c =
-            record {
-              target = advanced (chipOf d) (stepAt stream (r .done)) (r .target);
-              done = r .done + pick c 1 0;
-              number = refusal (chipOf d) (stepAt stream (r .done)) (r .target);
-            }
-
-        by : (b c : Bool) → pick b (next c) r .done ≤ r .done + 1
-        by true true = unfold pick in omega arith
-        by true false = unfold pick in omega arith
-        by false c = unfold pick in omega arith
-
-    after-sound : (r : Run) (n : ℕ) → soundCells d (r .target .cells) ≡ true → soundCells d (after (chipOf d) stream r n .target .cells) ≡ true
-    unfolding after
-    after-sound r zero e = e
-    after-sound r (suc n) e = turn-sound (after (chipOf d) stream r n) (after-sound r n e)
-
-    after-few : (r : Run) (n : ℕ) → after (chipOf d) stream r n .done ≤ r .done + n
-    unfolding after
-    after-few r zero = omega arith
-    after-few r (suc n) =
-        let before : after (chipOf d) stream r n .done ≤ r .done + n = after-few r n in
-        let one : turn (chipOf d) stream (after (chipOf d) stream r n) .done ≤ after (chipOf d) stream r n .done + 1 = turn-one (after (chipOf d) stream r n) in
-        omega arith
-
-    module _ (allowance : ℕ) (cells words : List ℕ) where
-      ran-sound : soundCells d cells ≡ true → soundCells d (ran d stream allowance cells words .target .cells) ≡ true
-      unfolding ran ranOn begun fresh
-      ran-sound e = by (eqb (runRefusal d stream cells) 0)
-        where
-          start : Target
-          start = record { registers = entered (chipOf d); cells = cells; words = words; read = 0 }
-
-          by : (b : Bool) → soundCells d (pick b (after (chipOf d) stream (record { target = start; done = 0; number = 0 }) (min allowance (length stream / 3)))
-              (record { target = start; done = 0; number = runRefusal d stream cells }) .target .cells) ≡ true
-          by true = unfold pick in after-sound (record { target = start; done = 0; number = 0 }) (min allowance (length stream / 3)) e
-          by false = unfold pick in e
-
-      ran-few : ran d stream allowance cells words .done ≤ allowance
-      unfolding ran ranOn begun fresh
-      ran-few = by (eqb (runRefusal d stream cells) 0) (after-few start (min allowance (length stream / 3))) (min-le-left allowance (length stream / 3))
-        where
-          here : Target
-          here = record { registers = entered (chipOf d); cells = cells; words = words; read = 0 }
-
-          start : Run
-          start = record { target = here; done = 0; number = 0 }
-
-          by : (b : Bool) → after (chipOf d) stream start (min allowance (length stream / 3)) .done ≤ 0 + min allowance (length stream / 3) → min allowance (length stream / 3) ≤ allowance
-              → pick b (after (chipOf d) stream start (min allowance (length stream / 3))) (record { target = here; done = 0; number = runRefusal d stream cells }) .done ≤ allowance
-          by true few least = unfold pick in omega arith
-          by false few least = unfold pick in omega arith
+  ran-few : ran d stream allowance cells words .done ≤ allowance
+  unfolding ran
+  ran-few = run-few (modelOf d) stream allowance cells words
 
 -- ---- the text of a run
 
 -- no more steps than were allowed
-pub run-few : (d : Device) (stream words cells : List ℕ) (allowance : ℕ) (a : Ran) (words′ cells′ : List ℕ) → Runs d stream allowance words cells a words′ cells′ → a .steps ≤ allowance
+pub steps-few : (d : Device) (stream words cells : List ℕ) (allowance : ℕ) (a : Ran) (words′ cells′ : List ℕ) → Runs d stream allowance words cells a words′ cells′ → a .steps ≤ allowance
 unfolding answered
-run-few d stream words cells allowance a words′ cells′ g = rw (g .answers) (ran-few d stream allowance cells words)
+steps-few d stream words cells allowance a words′ cells′ g = rw (g .answers) (ran-few d stream allowance cells words)
 
 -- what the call of the run answered on the cells of a reading, with room for a word at each step
 module _ (d : Device) (reading : List ℕ) (ok : readingOk (d .words) reading ≡ true) (stream cells : List ℕ) (k : cells ≡ cellsOf reading)
@@ -234,8 +154,8 @@ module _ (d : Device) (reading : List ℕ) (ok : readingOk (d .words) reading �
   unfolding answered
   steps-are = ap (λ x. x .steps) (g .answers) ∙ ap (λ x. x .done) ran-is
 
-  cells′-sound : soundCells d cells′ ≡ true
-  cells′-sound = ap (soundCells d) (g .cells-left) ∙ ran-sound d stream mostSteps cells (replicate mostSteps 0) (cells-sound d reading ok cells k)
+  cells′-sound : soundCells (chipOf d) cells′ ≡ true
+  cells′-sound = ap (soundCells (chipOf d)) (g .cells-left) ∙ ran-sound d stream mostSteps cells (replicate mostSteps 0) (cells-sound d reading ok cells k)
 
   pub run-stopped : (a .number ≡ 0 → ⊥) → refusedText (a .number) (a .steps + 1) ≡ playedText d (played d reading stream)
   unfolding playedText
@@ -243,45 +163,45 @@ module _ (d : Device) (reading : List ℕ) (ok : readingOk (d .words) reading �
 
   -- the cells stand at the front of a longer list
   module _ (rest : List ℕ) where
-    count : length cells′ ≡ d .words + 11
-    count = cells-long d cells′ cells′-sound
+    count : length cells′ ≡ d .words + cellsTail
+    count = cells-long (chipOf d) cells′ cells′-sound
 
-    front : take (d .words + 11) (cells′ ++ rest) ≡ cells′
-    front = take-at cells′ rest (d .words + 11) count
+    front : take (d .words + cellsTail) (cells′ ++ rest) ≡ cells′
+    front = take-at cells′ rest (d .words + cellsTail) count
 
-    pub run-room : d .words + 11 ≤ length (cells′ ++ rest)
+    pub run-room : d .words + cellsTail ≤ length (cells′ ++ rest)
     run-room = rw (length-append cells′ rest) (omega (arith, count))
 
-    pub run-part : length (take (d .words + 11) (cells′ ++ rest)) ≡ d .words + 11
-    run-part = length-take-le (d .words + 11) (cells′ ++ rest) run-room
+    pub run-part : length (take (d .words + cellsTail) (cells′ ++ rest)) ≡ d .words + cellsTail
+    run-part = length-take-le (d .words + cellsTail) (cells′ ++ rest) run-room
 
-    pub run-sound : soundCells d (take (d .words + 11) (cells′ ++ rest)) ≡ true
-    run-sound = ap (soundCells d) front ∙ cells′-sound
+    pub run-sound : soundCells (chipOf d) (take (d .words + cellsTail) (cells′ ++ rest)) ≡ true
+    run-sound = ap (soundCells (chipOf d)) front ∙ cells′-sound
 
-    pub run-whole : a .number ≡ 0 → sheetText d (take (d .words + 9) (take (d .words + 11) (cells′ ++ rest))) ≡ playedText d (played d reading stream)
+    pub run-whole : a .number ≡ 0 → sheetText d (take (d .words + readingTail) (take (d .words + cellsTail) (cells′ ++ rest))) ≡ playedText d (played d reading stream)
     unfolding playedText
     run-whole z =
-        ap (λ l. sheetText d (take (d .words + 9) l)) (front ∙ (g .cells-left ∙ ap (λ x. x .target .cells) ran-is))
+        ap (λ l. sheetText d (take (d .words + readingTail) l)) (front ∙ (g .cells-left ∙ ap (λ x. x .target .cells) ran-is))
         ∙ sym (pick-true (eqb (played d reading stream .number) 0) _ _ (eq-eqb (played d reading stream .number) 0 (sym number-is ∙ z)))
 
 -- ---- the sheet
 
 sheet-most : (d : Device) → deviceOk d ≡ true → sheetLength d ≤ 46135
 unfolding sheetLength
-sheet-most d sound = let most : d .words ≤ 8192 = rules d sound .most in omega arith
+sheet-most d sound = let most : d .words ≤ mostWords = rules d sound .most in omega arith
 
-module _ (d : Device) (sound : deviceOk d ≡ true) (cells : List ℕ) (ok : soundCells d cells ≡ true) where
-  pub sheet-part : d .words + 9 ≤ length cells
-  sheet-part = let l : length cells ≡ d .words + 11 = cells-long d cells ok in omega arith
+module _ (d : Device) (sound : deviceOk d ≡ true) (cells : List ℕ) (ok : soundCells (chipOf d) cells ≡ true) where
+  pub sheet-part : d .words + readingTail ≤ length cells
+  sheet-part = let l : length cells ≡ d .words + cellsTail = cells-long (chipOf d) cells ok in omega arith
 
-  front-sound : readingOk (d .words) (take (d .words + 9) cells) ≡ true
+  front-sound : readingOk (d .words) (take (d .words + readingTail) cells) ≡ true
   unfolding readingOk
   front-sound =
-      words-of (d .words + 9) (take (d .words + 9) cells) (length-take-le (d .words + 9) cells sheet-part)
-      (λ i h. let s : getD cells i 0 < 0x4000 = (unfold soundCells in words-each (d .words + 11) cells ok i) in rw (getD-take (d .words + 9) cells i 0 h) s)
+      words-of (d .words + readingTail) (take (d .words + readingTail) cells) (length-take-le (d .words + readingTail) cells sheet-part)
+      (λ i h. let s : getD cells i 0 < 0x4000 = (unfold soundCells in words-each (d .words + cellsTail) cells ok i) in rw (getD-take (d .words + readingTail) cells i 0 h) s)
 
-  module _ (text : List ℕ) (long : length text ≡ 46135) (w : Written) (e : w ≡ written d (take (d .words + 9) cells) text) where
-    sheet-is : written d (take (d .words + 9) cells) text ≡ record { number = 0; length = sheetLength d }
+  module _ (text : List ℕ) (long : length text ≡ 46135) (w : Written) (e : w ≡ written d (take (d .words + readingTail) cells) text) where
+    sheet-is : written d (take (d .words + readingTail) cells) text ≡ record { number = 0; length = sheetLength d }
     unfolding written pick
     sheet-is =
         let fits : sheetLength d ≤ length text = let m : sheetLength d ≤ 46135 = sheet-most d sound in omega arith in
@@ -293,13 +213,13 @@ module _ (d : Device) (sound : deviceOk d ≡ true) (cells : List ℕ) (ok : sou
     pub sheet-short : w .length ≤ 46135
     sheet-short = let m : sheetLength d ≤ 46135 = sheet-most d sound in let l : w .length ≡ sheetLength d = sheet-long in omega arith
 
-    pub sheet-front : (text′ : List ℕ) → text′ ≡ writtenText d (take (d .words + 9) cells) text → take (w .length) text′ ≡ sheetText d (take (d .words + 9) cells)
+    pub sheet-front : (text′ : List ℕ) → text′ ≡ writtenText d (take (d .words + readingTail) cells) text → take (w .length) text′ ≡ sheetText d (take (d .words + readingTail) cells)
     unfolding writtenText
     sheet-front text′ f =
-        ap (take (w .length)) (f ∙ pick-true (eqb (written d (take (d .words + 9) cells) text .number) 0) _ _ (eq-eqb _ 0 (ap (λ x. x .number) sheet-is)))
-        ∙ front-is text (sheetText d (take (d .words + 9) cells)) (w .length) (sheet-long ∙ sym (length-sheet d (take (d .words + 9) cells)))
+        ap (take (w .length)) (f ∙ pick-true (eqb (written d (take (d .words + readingTail) cells) text .number) 0) _ _ (eq-eqb _ 0 (ap (λ x. x .number) sheet-is)))
+        ∙ front-is text (sheetText d (take (d .words + readingTail) cells)) (w .length) (sheet-long ∙ sym (length-sheet d (take (d .words + readingTail) cells)))
         (let m : w .length ≤ 46135 = sheet-short in omega arith)
 
-pub played-short : (d : Device) → deviceOk d ≡ true → (r : Run) → length (playedText d r) ≤ 46135
+pub played-short : (d : Device) → deviceOk d ≡ true → (r : Run Target) → length (playedText d r) ≤ 46135
 unfolding playedText
-played-short d sound r = either-short 46135 (omega arith) (r .number) (r .done + 1) _ (λ z. rw (length-sheet d (take (d .words + 9) (r .target .cells))) (sheet-most d sound))
+played-short d sound r = either-short 46135 (omega arith) (r .number) (r .done + 1) _ (λ z. rw (length-sheet d (take (d .words + readingTail) (r .target .cells))) (sheet-most d sound))

@@ -10,10 +10,11 @@ use borrow.Author.Tests.{eq-eqb, ne-eqb}
 use Rattle.words.specs.Choice.{pick}
 use Rattle.words.specs.LawsChoice.{pick-true, pick-false}
 use Rattle.device.specs.declared.Device.{Device}
+use Rattle.device.specs.Memory.{readingTail}
 use Rattle.device.specs.Record.{deviceOk}
 use Rattle.print.specs.Print.{refusedText}
 use Rattle.print.specs.LawsLines.{refused-short, either-short}
-use Rattle.board.specs.Open.{recordOf, boardNumber, readingOf}
+use Rattle.board.specs.Open.{recordOf, boardNumber, boardReading}
 use Rattle.board.specs.LawsBoard.{Board, board-sound, board-told, board-text}
 use Rattle.trials.specs.Trial.{badLine, streamOf, played, playedText, trialText}
 use Rattle.trials.specs.LawsTyped.{StreamRead, front-is}
@@ -34,12 +35,13 @@ module _ (table sheet stream : List ℕ) (number : ℕ) (e : number ≡ boardNum
         ∙ (sym (pick-false (eqb (badLine stream) 0) _ _ (ne-eqb (badLine stream) 0 (λ y. n (read .line-is ∙ y))))
         ∙ board-text table sheet number e _ (refusedText (boardNumber table sheet) 0) z)
 
-    pub trial-run : line ≡ 0 → length stream₀ ≡ 98304 → (d : Device) (reading : List ℕ) → Board table sheet d reading → playedText d (played d (take (d .words + 9) reading) (take (3 * steps) bytes)) ≡ trialText table sheet stream
+    pub trial-run : line ≡ 0 → length stream₀ ≡ 98304 → (d : Device) (reading : List ℕ) → Board table sheet d reading
+        → playedText d (played d (take (d .words + readingTail) reading) (take (3 * steps) bytes)) ≡ trialText table sheet stream
     unfolding trialText
     trial-run y long d reading b =
-        ap (λ l. playedText d (played d (take (d .words + 9) reading) l)) front
+        ap (λ l. playedText d (played d (take (d .words + readingTail) reading) l)) front
         ∙ (ap (λ l. playedText d (played d l (streamOf stream))) (b .front)
-        ∙ (ap (λ x. playedText x (played x (readingOf table sheet) (streamOf stream))) (b .record-is)
+        ∙ (ap (λ x. playedText x (played x (boardReading table sheet) (streamOf stream))) (b .record-is)
         ∙ (sym (pick-true (eqb (badLine stream) 0) _ _ (eq-eqb (badLine stream) 0 (sym (read .line-is) ∙ y)))
         ∙ board-text table sheet number e _ (refusedText (boardNumber table sheet) 0) z)))
       where
@@ -57,6 +59,6 @@ trial-short table sheet stream =
     either-short 46135 (omega arith) (boardNumber table sheet) 0 _ (λ z. by (eqb (badLine stream) 0) (board-sound table sheet z) (refused-short 34 (badLine stream)))
   where
     by : (c : Bool) → deviceOk (recordOf table sheet) ≡ true → length (refusedText 34 (badLine stream)) ≤ 30
-        → length (pick c (playedText (recordOf table sheet) (played (recordOf table sheet) (readingOf table sheet) (streamOf stream))) (refusedText 34 (badLine stream))) ≤ 46135
+        → length (pick c (playedText (recordOf table sheet) (played (recordOf table sheet) (boardReading table sheet) (streamOf stream))) (refusedText 34 (badLine stream))) ≤ 46135
     by true sound s = unfold pick in played-short (recordOf table sheet) sound _
     by false sound s = unfold pick in omega arith

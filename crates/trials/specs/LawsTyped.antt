@@ -18,7 +18,7 @@ use Rattle.numerals.specs.Hex.{capitalOf, byteBy, wordBy}
 use Rattle.words.specs.LawsChoice.{first-fails, second-fails, first-holds, second-holds}
 use Rattle.numerals.specs.LawsText.{part, part-found, part-last, some-piece}
 use Rattle.words.specs.LawsLists.{sets-append}
-use Rattle.trials.specs.Trial.{mostSteps, isStep, stepBytes, badFrom, bytesIn, badLine, streamOf}
+use Rattle.trials.specs.Trial.{mostSteps, isStep, typedBytes, badFrom, bytesIn, badLine, streamOf}
 
 -- ---- a line
 
@@ -63,8 +63,8 @@ module _ (line : List ℕ) where
   -- its bytes stored one by one
   pub step-put : (code payload at : ℕ) → code ≡ byteBy capitalOf line 0 → payload ≡ wordBy capitalOf line 3
       → (o p q r : List ℕ) → p ≡ set o at code → q ≡ set p (at + 1) (payload % 256) → r ≡ set q (at + 2) (payload / 256)
-      → r ≡ sets o at (stepBytes line)
-  unfolding stepBytes
+      → r ≡ sets o at (typedBytes line)
+  unfolding typedBytes
   step-put code payload at e f o p q r a b c =
       let second : at + 1 ≡ suc at = add-one at in
       let third : at + 2 ≡ suc (suc at) = omega arith in
@@ -83,7 +83,7 @@ module _ (line : List ℕ) (rest : List (List ℕ)) where
   unfolding badFrom pick
   bad-stop k some e = rw (some, e)
 
-  bytes-on : isStep line ≡ true → bytesIn (line ∷ rest) ≡ stepBytes line ++ bytesIn rest
+  bytes-on : isStep line ≡ true → bytesIn (line ∷ rest) ≡ typedBytes line ++ bytesIn rest
   unfolding bytesIn pick
   bytes-on e = rw e
 
@@ -124,7 +124,8 @@ module _ (text : List ℕ) (at r : ℕ) (e : r ≡ at + indexOf lf (slice at (le
         parts = unfold part in part-found lf text at r e (le-of-lt left) h;
         bad = λ k. refl;
         bytes = refl;
-        some = second-fails (eqb (length (take (r - at) (drop at text))) 0) _ (some-piece lf (drop (r + 1) text) (λ ls. eqb (length ls) 0 ≡ false) (λ p ps. ne-eqb (suc (length ps)) 0 (λ z. omega arith)));
+        some = second-fails (eqb (length (take (r - at) (drop at text))) 0) _
+            (some-piece lf (drop (r + 1) text) (λ ls. eqb (length ls) 0 ≡ false) (λ p ps. ne-eqb (suc (length ps)) 0 (λ z. omega arith)));
       }
 
   next-last : length text ≤ r → Next text at r
@@ -197,13 +198,14 @@ module _ (text stream₀ : List ℕ) where
       typing-stop b q f = stopped (first-fails (isStep (take (r - at) (drop at text))) _ (sym q ∙ f))
 
       pub typing-on : steps < 32768 → (b : Bool) → b ≡ isStep (take (r - at) (drop at text)) → b ≡ true
-          → (stream′ : List ℕ) → stream′ ≡ sets stream (3 * steps) (stepBytes (take (r - at) (drop at text))) → Typing text stream₀ (r + 1) (steps + 1) stream′
+          → (stream′ : List ℕ) → stream′ ≡ sets stream (3 * steps) (typedBytes (take (r - at) (drop at text))) → Typing text stream₀ (r + 1) (steps + 1) stream′
       typing-on h b q y stream′ w =
           record {
             within = omega arith;
             few = omega arith;
-            kept = ap length w ∙ (length-sets stream (3 * steps) (stepBytes (take (r - at) (drop at text))) ∙ t .kept);
-            bad = sym (ahead .bad (steps + 1 + 1)) ∙ (sym (bad-on (take (r - at) (drop at text)) (ahead .rest) (steps + 1) yes-step (omega arith)) ∙ (ap (badFrom (steps + 1)) (sym (ahead .parts)) ∙ t .bad));
+            kept = ap length w ∙ (length-sets stream (3 * steps) (typedBytes (take (r - at) (drop at text))) ∙ t .kept);
+            bad = sym (ahead .bad (steps + 1 + 1)) ∙ (sym (bad-on (take (r - at) (drop at text)) (ahead .rest) (steps + 1) yes-step (omega arith)) ∙
+                (ap (badFrom (steps + 1)) (sym (ahead .parts)) ∙ t .bad));
             bytes = stored;
             count = counted;
           }
@@ -211,24 +213,24 @@ module _ (text stream₀ : List ℕ) where
           yes-step : isStep (take (r - at) (drop at text)) ≡ true
           yes-step = sym q ∙ y
 
-          these : bytesIn (split lf (drop at text)) ≡ stepBytes (take (r - at) (drop at text)) ++ bytesIn (split lf (drop (r + 1) text))
+          these : bytesIn (split lf (drop at text)) ≡ typedBytes (take (r - at) (drop at text)) ++ bytesIn (split lf (drop (r + 1) text))
           these =
               ap bytesIn (ahead .parts)
-              ∙ (bytes-on (take (r - at) (drop at text)) (ahead .rest) yes-step ∙ ap (λ l. stepBytes (take (r - at) (drop at text)) ++ l) (ahead .bytes))
+              ∙ (bytes-on (take (r - at) (drop at text)) (ahead .rest) yes-step ∙ ap (λ l. typedBytes (take (r - at) (drop at text)) ++ l) (ahead .bytes))
 
-          three : length (stepBytes (take (r - at) (drop at text))) ≡ 3
-          three = unfold stepBytes in refl
+          three : length (typedBytes (take (r - at) (drop at text))) ≡ 3
+          three = unfold typedBytes in refl
 
           stored : sets stream′ (3 * (steps + 1)) (bytesIn (split lf (drop (r + 1) text))) ≡ sets stream₀ 0 (streamOf text)
           stored =
-              let place : 3 * (steps + 1) ≡ 3 * steps + length (stepBytes (take (r - at) (drop at text))) = rw three (omega arith) in
-              rw (w, place) (sets-append stream (3 * steps) (stepBytes (take (r - at) (drop at text))) (bytesIn (split lf (drop (r + 1) text))))
+              let place : 3 * (steps + 1) ≡ 3 * steps + length (typedBytes (take (r - at) (drop at text))) = rw three (omega arith) in
+              rw (w, place) (sets-append stream (3 * steps) (typedBytes (take (r - at) (drop at text))) (bytesIn (split lf (drop (r + 1) text))))
               ∙ (ap (sets stream (3 * steps)) (sym these) ∙ t .bytes)
 
           counted : 3 * (steps + 1) + length (bytesIn (split lf (drop (r + 1) text))) ≡ length (streamOf text)
           counted =
               let whole : length (bytesIn (split lf (drop at text))) ≡ 3 + length (bytesIn (split lf (drop (r + 1) text))) =
-              ap length these ∙ (length-append (stepBytes (take (r - at) (drop at text))) _ ∙ ap (λ n. n + length (bytesIn (split lf (drop (r + 1) text)))) three) in
+              ap length these ∙ (length-append (typedBytes (take (r - at) (drop at text))) _ ∙ ap (λ n. n + length (bytesIn (split lf (drop (r + 1) text)))) three) in
               let before : 3 * steps + length (bytesIn (split lf (drop at text))) ≡ length (streamOf text) = t .count in
               omega arith
 

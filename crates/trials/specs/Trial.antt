@@ -4,15 +4,18 @@ use mathlib.Core.Bool.{Bool, _&&_}
 use mathlib.Core.List.{List, [], _∷_, _++_}
 use lib.Dec.{ltb, leb, eqb}
 use lib.ListN.{length, getD, take, replicate}
-use Rattle.words.specs.Choice.{pick}
+use Rattle.words.specs.Choice.{pick, unless}
 use Rattle.words.specs.Word.{erased}
 use Rattle.numerals.specs.Text.{tab, lf, split}
 use Rattle.numerals.specs.Hex.{capitalOf, byteBy, wordBy}
 use Rattle.device.specs.declared.Device.{Device}
+use Rattle.device.specs.Memory.{readingTail}
 use Rattle.sheet.specs.Sheet.{sheetText}
-use Rattle.target.specs.Run.{Run, ran}
+use Rattle.target.specs.Model.{Run}
+use Rattle.target.specs.Step.{Target}
+use Rattle.target.specs.Run.{ran}
 use Rattle.print.specs.Print.{refusedText}
-use Rattle.board.specs.Open.{recordOf, boardNumber, readingOf}
+use Rattle.board.specs.Open.{recordOf, boardNumber, boardReading}
 
 -- the most steps that the program plays
 abbrev pub mostSteps : ℕ
@@ -26,8 +29,8 @@ isStep line =
     eqb (length line) 7 && (ltb (byteBy capitalOf line 0) 256 && (eqb (getD line 2 0) tab && ltb (wordBy capitalOf line 3) 65536))
 
 -- its three bytes: code, payload low, payload high
-unfoldable pub stepBytes : (line : List ℕ) → List ℕ
-stepBytes line = byteBy capitalOf line 0 ∷ wordBy capitalOf line 3 % 256 ∷ wordBy capitalOf line 3 / 256 ∷ []
+unfoldable pub typedBytes : (line : List ℕ) → List ℕ
+typedBytes line = byteBy capitalOf line 0 ∷ wordBy capitalOf line 3 % 256 ∷ wordBy capitalOf line 3 / 256 ∷ []
 
 -- the number of the first line that is no step, or is one too many, where the first is line k; 0 if there is none.
 -- After the last LF there is a line only if anything stands there
@@ -40,7 +43,7 @@ badFrom k (line ∷ rest) =
 -- the bytes of the lines that are steps
 unfoldable pub bytesIn : (lines : List (List ℕ)) → List ℕ
 bytesIn [] = []
-bytesIn (line ∷ rest) = pick (isStep line) (stepBytes line) [] ++ bytesIn rest
+bytesIn (line ∷ rest) = pick (isStep line) (typedBytes line) [] ++ bytesIn rest
 
 unfoldable pub badLine : (text : List ℕ) → ℕ
 badLine text = badFrom 1 (split lf text)
@@ -54,17 +57,18 @@ streamOf text = bytesIn (split lf text)
 unfoldable pub cellsOf : (reading : List ℕ) → List ℕ
 cellsOf reading = reading ++ erased ∷ erased ∷ []
 
-unfoldable pub played : Device → (reading stream : List ℕ) → Run
+unfoldable pub played : Device → (reading stream : List ℕ) → Run Target
 played d reading stream = ran d stream mostSteps (cellsOf reading) (replicate mostSteps 0)
 
 -- the sheet after the run, or the refused step's number at its line
-unfoldable pub playedText : Device → Run → List ℕ
-playedText d r = pick (eqb (r .number) 0) (sheetText d (take (d .words + 9) (r .target .cells))) (refusedText (r .number) (r .done + 1))
+unfoldable pub playedText : Device → Run Target → List ℕ
+playedText d r =
+    unless (eqb (r .number) 0) (refusedText (r .number) (r .done + 1))
+    (sheetText d (take (d .words + readingTail) (r .target .cells)))
 
 -- the board, then the printed stream, 34 at its line, then the run
 unfoldable pub trialText : (table sheet stream : List ℕ) → List ℕ
 trialText table sheet stream =
-    pick (eqb (boardNumber table sheet) 0)
-    (pick (eqb (badLine stream) 0) (playedText (recordOf table sheet) (played (recordOf table sheet) (readingOf table sheet) (streamOf stream)))
-    (refusedText 34 (badLine stream)))
-    (refusedText (boardNumber table sheet) 0)
+    unless (eqb (boardNumber table sheet) 0) (refusedText (boardNumber table sheet) 0)
+    (unless (eqb (badLine stream) 0) (refusedText 34 (badLine stream))
+    (playedText (recordOf table sheet) (played (recordOf table sheet) (boardReading table sheet) (streamOf stream))))

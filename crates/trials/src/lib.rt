@@ -2,6 +2,7 @@
 mod played;
 mod typed;
 
+use device::READING_TAIL;
 ghost use Prim.Native.Nat.{_≤_};
 ghost use Rattle.print.specs.Print.{Prints};
 ghost use Rattle.trials.specs.Trial.{trialText};
@@ -21,7 +22,7 @@ pub fn trial(table: &[u8], sheet: &[u8], stream: &[u8], out: &mut [u8]) -> usize
         return print::refusal(out, 34, read.line);
     }
     let device = opened.device;
-    let count = (device.words as usize) + 9;
+    let count = (device.words as usize) + READING_TAIL;
     let length = 3 * read.steps;
     played::put_run(device, &reading[..count], &bytes[..length], out)
 }

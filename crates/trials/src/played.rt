@@ -1,6 +1,9 @@
 // A stream played on the model of a board, with room for a word at each step.
 use crate::typed;
+use device::CELLS_TAIL;
 use device::Device;
+use device::MOST_WORDS;
+use device::READING_TAIL;
 use words::ERASED;
 ghost use mathlib.Core.Path.{_≡_};
 ghost use mathlib.Core.Bool.{true};
@@ -8,14 +11,15 @@ ghost use Prim.Native.Nat.{_+_, _≤_};
 ghost use lib.ListN.{length, take};
 ghost use lib.Seq.{sets};
 ghost use Rattle.device.specs.Record.{deviceOk};
-ghost use Rattle.device.specs.Memory.{readingOk};
+ghost use Rattle.device.specs.Memory.{readingTail, readingOk};
 ghost use Rattle.sheet.specs.Sheet.{sheetText};
+ghost use Rattle.target.specs.Chip.{chipOf};
 ghost use Rattle.target.specs.Step.{soundCells};
 ghost use Rattle.print.specs.Print.{Prints};
 ghost use Rattle.trials.specs.Trial.{played, playedText};
 
 // The most cells that a target has.
-const MOST_CELLS: usize = 8203;
+const MOST_CELLS: usize = (MOST_WORDS as usize) + CELLS_TAIL;
 
 // The length of the longest sheet.
 const MOST_SHEET: usize = 46135;
@@ -27,7 +31,7 @@ pub(crate) fn put_run(d: Device, reading: &[u16], stream: &[u8], out: &mut [u8])
 {
     let mut cells = [ERASED; MOST_CELLS];
     copy(reading, &mut cells);
-    let count = (d.words as usize) + 11;
+    let count = (d.words as usize) + CELLS_TAIL;
     let mut words = [0u16; typed::MOST_STEPS];
     let ran = target::run(
         d,
@@ -56,10 +60,10 @@ fn copy(from: &[u16], to: &mut [u16])
 
 // The sheet of a target's cells.
 fn put_sheet(d: Device, cells: &[u16], out: &mut [u8]) -> usize
-    requires { ⌜ (deviceOk d ≡ true) × (soundCells d (now cells) ≡ true) ⌝ }
-    ensures { λ r. ⌜ Prints (sheetText d (take (d .words + 9) (now (cells .entry)))) (now (out .entry)) r (now (out .exit)) ⌝ }
+    requires { ⌜ (deviceOk d ≡ true) × (soundCells (chipOf d) (now cells) ≡ true) ⌝ }
+    ensures { λ r. ⌜ Prints (sheetText d (take (d .words + readingTail) (now (cells .entry)))) (now (out .entry)) r (now (out .exit)) ⌝ }
 {
-    let count = (d.words as usize) + 9;
+    let count = (d.words as usize) + READING_TAIL;
     let mut sheet = [0u8; MOST_SHEET];
     let written = sheet::write_sheet(d, &cells[..count], &mut sheet);
     let length = written.length;

@@ -3,7 +3,7 @@ ghost use mathlib.Core.Path.{_≡_};
 ghost use mathlib.Core.Bool.{true};
 ghost use Prim.Native.Nat.{_≤_};
 ghost use lib.Seq.{sets};
-ghost use Rattle.trials.specs.Trial.{isStep, stepBytes};
+ghost use Rattle.trials.specs.Trial.{isStep, typedBytes};
 ghost use Rattle.trials.specs.LawsTyped.{StreamRead};
 
 const TAB: u8 = 9;
@@ -63,7 +63,7 @@ fn is_step(line: &[u8]) -> bool
 // Stores a step's three bytes.
 fn put_step(line: &[u8], stream: &mut [u8], at: usize)
     requires { ⌜ (isStep (now line) ≡ true) × (at ≤ 98304) ⌝ }
-    ensures { λ _. ⌜ now (stream .exit) ≡ sets (now (stream .entry)) at (stepBytes (now (line .entry))) ⌝ }
+    ensures { λ _. ⌜ now (stream .exit) ≡ sets (now (stream .entry)) at (typedBytes (now (line .entry))) ⌝ }
 {
     let code = numerals::hex::capital_byte(line, 0);
     let payload = numerals::hex::capital_word(line, 3);

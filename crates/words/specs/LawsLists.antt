@@ -46,10 +46,6 @@ built l n f e h =
 pub build-ext : (n : ℕ) (f g : ℕ → ℕ) → ((i : ℕ) → i < n → f i ≡ g i) → build n f ≡ build n g
 build-ext n f g h = built (build n f) n g (length-build n f) (λ i p. getD-build n f i p ∙ h i p)
 
--- every list is built from its own entries
-pub build-self : (l : List ℕ) → build (length l) (λ i. getD l i 0) ≡ l
-build-self l = sym (built l (length l) (λ i. getD l i 0) refl (λ i p. refl))
-
 -- one entry changed
 pub build-set : (n : ℕ) (f g : ℕ → ℕ) (j v : ℕ) → v ≡ g j → ((i : ℕ) → (i ≡ j → ⊥) → f i ≡ g i) → set (build n f) j v ≡ build n g
 build-set n f g j v e h = built (set (build n f) j v) n g (length-set (build n f) j v ∙ length-build n f) (λ i p. at-each i p (ℕ-discrete i j))

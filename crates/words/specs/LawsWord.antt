@@ -3,11 +3,11 @@ use Prim.Native.Nat.{ℕ, zero, suc, _+_, _-_, _*_, _/_, _%_, _^_, _≤_, _<_, m
 use native.Mathlib.Nat.{mod-eq-of-lt, div-one, div-div-eq-div-mul, div-eq-of-lt, pow-succ', min-le-left, min-eq-right, zero-div, zero-mod, div-lt-iff-lt-mul}
 use native.Mathlib.Omega.{arith}
 use mathlib.Core.Path.{_≡_, refl, sym, ap, _∙_}
-use mathlib.Core.Logic.{inl, inr, ⊎-elim}
+use mathlib.Core.Logic.{inr, ⊎-elim}
 use mathlib.Core.Bool.{true, false}
 use lib.Pow.{pow-pos, shr-shr}
-use lib.Bits.{bitAnd, and-step, and-comm, and-mask, and-self, and-lt, and-shr}
-use borrow.Author.Tests.{ltb-true, ltb-false, lt-ltb, le-ltb, eqb-true, eq-eqb, ne-eqb}
+use lib.Bits.{bitAnd, and-step, and-comm, and-mask, and-self, and-shr}
+use borrow.Author.Tests.{ltb-true, lt-ltb, le-ltb, eqb-true, eq-eqb, ne-eqb}
 use mathlib.Core.List.{List}
 use lib.Dec.{eqb}
 use lib.ListN.{length, getD}
@@ -31,28 +31,13 @@ pub word-lt : (w : ℕ) → isWord w ≡ true → w < 0x4000
 unfolding isWord
 word-lt w e = ltb-true w 0x4000 e
 
-pub word-ge : (w : ℕ) → isWord w ≡ false → 0x4000 ≤ w
-unfolding isWord
-word-ge w e = ltb-false w 0x4000 e
-
 -- ---- AND
 
 -- an erased word takes what is written over it
 pub and-erased : (x : ℕ) → x < 0x4000 → bitAnd erased x ≡ x
 and-erased x h = and-comm erased x ∙ (and-mask x 14 ∙ mod-eq-of-lt h)
 
--- over the width: a word of k ones takes each word of k bits
-pub and-ones : (k x : ℕ) → x < 2 ^ k → bitAnd (2 ^ k - 1) x ≡ x
-and-ones k x h = and-comm (2 ^ k - 1) x ∙ (and-mask x k ∙ mod-eq-of-lt h)
-
-pub and-word : (x y : ℕ) → x < 0x4000 → y < 0x4000 → bitAnd x y < 0x4000
-and-word x y p q = and-lt 14 x y p q
-
 -- ---- single bits
-
-pub bit-lt : (w i : ℕ) → bit w i < 2
-unfolding bit
-bit-lt w i = omega arith
 
 pub bit-zero : (w : ℕ) → bit w 0 ≡ w % 2
 unfolding bit
@@ -72,9 +57,6 @@ unfolding bit
 bit-high k w i h p =
     let wide : w < 2 ^ i = native.Mathlib.Nat.lt-of-lt-of-le h (lib.Pow.pow-mono p) in
     rw (div-eq-of-lt wide)
-
-min-two : (x y : ℕ) → x < 2 → min x y % 2 ≡ min x y
-min-two x y p = mod-eq-of-lt (native.Mathlib.Nat.lt-of-le-of-lt (min-le-left x y) p)
 
 pub bit-and : (a b i : ℕ) → bit (bitAnd a b) i ≡ min (bit a i) (bit b i)
 unfolding bit
@@ -153,10 +135,6 @@ write-over w x c = c
 
 -- ---- between an old word and a new one
 
-pub between-old : (old new : ℕ) → Between old new old
-unfolding Between
-between-old old new i = inl refl
-
 pub between-new : (old new : ℕ) → Between old new new
 unfolding Between
 between-new old new i = inr refl
@@ -184,31 +162,7 @@ between-contains old new w x p q b =
 
 -- ---- halves and bytes
 
--- a load's payload is the word times two
-pub half-double : (w : ℕ) → 2 * w / 2 ≡ w
-half-double w = omega arith
-
-pub double-even : (w : ℕ) → 2 * w % 2 ≡ 0
-double-even w = omega arith
-
-pub double-half : (p : ℕ) → p % 2 ≡ 0 → 2 * (p / 2) ≡ p
-double-half p h = omega arith
-
--- the two bytes of a number
-pub low-high : (n : ℕ) → 256 * (n / 256) + n % 256 ≡ n
-low-high n = omega arith
-
-pub low-byte : (high low : ℕ) → low < 256 → (256 * high + low) % 256 ≡ low
-low-byte high low h = omega arith
-
-pub high-byte : (high low : ℕ) → low < 256 → (256 * high + low) / 256 ≡ high
-high-byte high low h = omega arith
-
 -- ---- bit 7
-
-pub bit-seven : (w : ℕ) → bit w 7 ≡ w / 128 % 2
-unfolding bit
-bit-seven w = refl
 
 pub erased-bit-seven : bit erased 7 ≡ 1
 unfolding bit

@@ -5,6 +5,7 @@ pub mod Address
 pub mod Lists
 pub mod LawsPromise
 pub mod LawsChoice
+pub mod LawsTests
 pub mod LawsWord
 pub mod LawsAddress
 pub mod LawsLists

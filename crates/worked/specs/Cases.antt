@@ -1,13 +1,12 @@
 -- The cases that the paper marks in 'Worked on the bench', each a test that computes, and one statement over all of them.
 use Prim.Native.Nat.{ℕ, zero, suc, _+_}
-use mathlib.Core.Path.{_≡_, refl}
-use mathlib.Core.Bool.{Bool, true, false, _&&_, not}
+use mathlib.Core.Bool.{Bool, true, false, _&&_}
 use mathlib.Core.List.{List, [], _∷_, _++_}
-use lib.Dec.{eqb, leb}
-use lib.ListN.{length, getD, set, replicate}
+use lib.Dec.{eqb}
+use lib.ListN.{length, set, replicate}
 use Rattle.words.specs.Word.{erased, notGiven}
 use Rattle.device.specs.declared.Device.{Device}
-use Rattle.hexread.specs.Reader.{readOf}
+use Rattle.hexread.specs.Reader.{textRead}
 use Rattle.judge.specs.Checksum.{checksumOf}
 use Rattle.plan.specs.Steps.{updateSteps}
 use Rattle.plan.specs.Answers.{updateNumber}
@@ -54,11 +53,11 @@ same (a ∷ l) (b ∷ m) = eqb a b && same l m
 
 -- a text gives just this image, whatever was lent
 unfoldable pub gives : (text image : List ℕ) → Bool
-gives text image = eqb (readOf tiny text lent .number) 0 && same (readOf tiny text lent .image) image
+gives text image = eqb (textRead tiny text lent .number) 0 && same (textRead tiny text lent .image) image
 
 -- the end record alone gives an empty image; the empty text gives 10
 unfoldable pub endAlone : Bool
-endAlone = gives endLine noImage && eqb (readOf tiny [] lent .number) 10 && same (readOf tiny [] lent .image) noImage
+endAlone = gives endLine noImage && eqb (textRead tiny [] lent .number) 10 && same (textRead tiny [] lent .image) noImage
 
 -- word 0000h is 3400h
 unfoldable pub wordZero : Bool

@@ -1,25 +1,32 @@
 -- The paper's 'Errors that look right', each as a stream or as cells that such an error would give, on TINY.
-use Prim.Native.Nat.{ℕ, _+_, _/_}
-use mathlib.Core.Bool.{true}
+use Prim.Native.Nat.{ℕ, _/_}
 use mathlib.Core.List.{List, [], _∷_, _++_}
 use lib.ListN.{set, replicate}
 use Rattle.words.specs.Word.{erased}
 use Rattle.device.specs.declared.Device.{Device}
-use Rattle.plan.specs.Wanted.{wanted, rowDiffers, idDiffers, updateWrites}
-use Rattle.plan.specs.Steps.{rowsFrom, configSteps}
+use Rattle.plan.specs.Wanted.{wanted}
+use Rattle.plan.specs.Steps.{Task, rowsFrom, configSteps, updateTask}
+use Rattle.target.specs.Chip.{chipOf}
 use Rattle.target.specs.declared.Order.{Order}
 use Rattle.target.specs.declared.Order.the-variants.{ResetAddress, Increment}
 use Rattle.worked.specs.Cases.{blankTiny, noImage, loadsFrom}
 
 -- the cells of a board, calibration words 3FFFh
-abbrev pub cellsOf : (reading : List ℕ) → List ℕ
-cellsOf reading = reading ++ (erased ∷ erased ∷ [])
+abbrev pub boardCells : (reading : List ℕ) → List ℕ
+boardCells reading = reading ++ (erased ∷ erased ∷ [])
+
+-- the rows of a task, with these words
+unfoldable pub rowsOf : Device → (word : ℕ → ℕ) → Task → List Order
+rowsOf d word t = ResetAddress ∷ rowsFrom (chipOf d) (t .eraseRow) word (t .rows) (d .words / d .row) 0 0
+
+unfoldable pub configOf : Device → Task → List Order
+configOf d t = configSteps (chipOf d) (t .eraseIds) (t .word) (t .writes)
 
 -- ---- writing 3FFFh, in an update, where the file is silent
 
 -- the rows that an update writes, with 3FFFh for each word that is not given
 unfoldable pub blankWhereSilent : Device → (image reading : List ℕ) → List Order
-blankWhereSilent d image reading = ResetAddress ∷ rowsFrom true (wanted image []) (rowDiffers d image reading) (d .row) (d .words / d .row) 0 0
+blankWhereSilent d image reading = rowsOf d (wanted d image []) (updateTask d image reading)
 
 -- word 0003h is given, and the board has 0123h at 0002h
 abbrev pub silentImage : List ℕ
@@ -32,9 +39,7 @@ silentBoard = set blankTiny 2 0x0123
 
 -- an update's segments, those of configuration space first
 unfoldable pub configFirst : Device → (image reading : List ℕ) → List Order
-configFirst d image reading =
-    configSteps (idDiffers d image reading) (λ k. wanted image reading (d .words + k)) (updateWrites d image reading)
-    ++ (ResetAddress ∷ rowsFrom true (wanted image reading) (rowDiffers d image reading) (d .row) (d .words / d .row) 0 0)
+configFirst d image reading = configOf d (updateTask d image reading) ++ rowsOf d (wanted d image reading) (updateTask d image reading)
 
 -- word 0003h is given, and 8007h with CP = 0
 abbrev pub protectingImage : List ℕ

@@ -3,70 +3,83 @@ use Prim.Native.Nat.{ℕ, _≤_}
 use native.Mathlib.Omega.{arith}
 use mathlib.Core.Path.{_≡_, refl, sym, ap, _∙_}
 use mathlib.Core.Bool.{false}
-use mathlib.Core.List.{List, []}
+use mathlib.Core.List.{[]}
 use lib.ListN.{getD}
 use Rattle.words.specs.Choice.{pick}
 use Rattle.words.specs.Word.{isWord, bit, wordsOf}
 use Rattle.words.specs.Lists.{build, inRange, every}
 use Rattle.words.specs.Address.{entryOf, successor}
 use Rattle.device.specs.Record.{rowOk, wordsOk, deviceOk}
-use Rattle.plan.specs.Wanted.{known, wanted, differs, some, rowDiffers, idDiffers, updateWrites}
-use Rattle.plan.specs.Steps.{walk, loads, erasing, rowSteps, rowsFrom, wordSteps, writesFrom, configSteps}
-use Rattle.plan.specs.Demands.{programmable, programmed, Recovers}
-use Rattle.target.specs.Chip.{chipOf}
-use Rattle.target.specs.Effects.{counterAfter, blank, latchesAfter, protected, edit, inProgram, idCell, configCell, atErase, rowErased, bulkErased, written, latchOf, burnt, cellsAfter, wordRead, registersAfter, entered}
-use Rattle.target.specs.Step.{loadOk, load, plain, decoded, orderNumber, wordsAfter, readAfter, targetAfter, room, refusal, obeyed, advanced, soundCells, fresh}
-use Rattle.target.specs.Run.{stepAt, turn, after, ranOn, runRefusal, ran}
-use Rattle.target.specs.Run
+use Rattle.device.specs.Memory.{isConfig, programmable, zeroBit}
+use Rattle.plan.specs.Wanted.{known, wanted, differs, some, rowDiffers, idDiffers, configWrites}
+use Rattle.plan.specs.Steps.{walk, loads, setSteps, erasing, rowSteps, rowsFrom, wordSteps, writesFrom, configSteps, taskOf, updateTask}
+use Rattle.plan.specs.Demands.{programmed}
+use Rattle.target.specs.Effects.{blank, locked, edit, inProgram, idCell, configCell, atErase, rowErased, bulkErased, beginWritten, latchOf, burnt}
+use Rattle.target.specs.Step.{loadOk, load, plain, decoded, effect, stepEffect, soundCells, unread}
+use Rattle.target.specs.Model.{codeAt, payloadAt, onward, turn, after, started, runOf}
+use Rattle.target.specs.Run.{entered, runRefusal, modelOf, ran}
+use Rattle.target.specs.Cut.{Recovers}
 use Rattle.target.specs.Cut
 use Rattle.target.specs.Stream.{codeOf, payloadOf, stepBytes, bytesOf}
 use Rattle.worked.specs.Cases.{tiny, blankTiny, same, loadsFrom}
-use Rattle.worked.specs.Errors.{cellsOf, blankWhereSilent, silentImage, silentBoard, configFirst, protectingImage, acrossTwo, firstRowWritten}
+use Rattle.worked.specs.Errors.{boardCells, rowsOf, configOf, blankWhereSilent, silentImage, silentBoard, configFirst, protectingImage, acrossTwo, firstRowWritten}
 
 -- ---- 3FFFh where the file is silent: the word that the board had is lost
 
-silent-leaves : getD (ran tiny (bytesOf (blankWhereSilent tiny silentImage silentBoard)) 100 (cellsOf silentBoard) [] .target .cells) 2 0 ≡ 0x3fff
-unfolding blankWhereSilent pick isWord bit wordsOf every build inRange entryOf successor rowOk wordsOk deviceOk chipOf counterAfter blank latchesAfter protected edit inProgram idCell configCell atErase rowErased bulkErased written latchOf burnt cellsAfter registersAfter entered loadOk load plain decoded orderNumber wordsAfter readAfter targetAfter room refusal obeyed advanced soundCells fresh stepAt turn after Run.begun ranOn runRefusal ran codeOf payloadOf stepBytes bytesOf known wanted differs some rowDiffers idDiffers updateWrites walk loads erasing rowSteps rowsFrom wordSteps writesFrom configSteps
+silent-leaves : getD (ran tiny (bytesOf (blankWhereSilent tiny silentImage silentBoard)) 100 (boardCells silentBoard) [] .target .cells) 2 0 ≡ 0x3fff
+unfolding blankWhereSilent pick isWord bit wordsOf every build inRange entryOf successor rowOk wordsOk deviceOk isConfig zeroBit blank locked edit
+    inProgram idCell configCell atErase rowErased bulkErased beginWritten latchOf burnt entered loadOk load plain decoded effect stepEffect soundCells
+    unread codeAt payloadAt onward turn after started runOf runRefusal ran codeOf payloadOf stepBytes bytesOf known wanted differs some rowDiffers
+    idDiffers configWrites walk loads setSteps erasing rowSteps rowsFrom wordSteps writesFrom configSteps taskOf updateTask rowsOf configOf
 silent-leaves = refl
 
-silent-wanted : getD (programmed tiny silentImage silentBoard (cellsOf silentBoard)) 2 0 ≡ 0x0123
-unfolding programmed programmable pick build inRange known wanted
+silent-wanted : getD (programmed tiny silentImage silentBoard (boardCells silentBoard)) 2 0 ≡ 0x0123
+unfolding programmed programmable isConfig pick build inRange known wanted
 silent-wanted = refl
 
 silent-steps : Prim.Native.Nat._/_ (lib.ListN.length (bytesOf (blankWhereSilent tiny silentImage silentBoard))) 3 ≤ 100
-unfolding blankWhereSilent codeOf payloadOf stepBytes bytesOf pick known wanted differs some rowDiffers walk loads erasing rowSteps rowsFrom
+unfolding blankWhereSilent pick isConfig codeOf payloadOf stepBytes bytesOf known wanted differs some rowDiffers idDiffers configWrites walk loads
+    setSteps erasing rowSteps rowsFrom wordSteps writesFrom configSteps taskOf updateTask rowsOf configOf
 silent-steps = omega arith
 
-pub silent-fails : Recovers tiny (bytesOf (blankWhereSilent tiny silentImage silentBoard)) (cellsOf silentBoard) (programmed tiny silentImage silentBoard (cellsOf silentBoard)) → ⊥
+pub silent-fails : Recovers (modelOf tiny) (bytesOf (blankWhereSilent tiny silentImage silentBoard)) (boardCells silentBoard) (programmed tiny silentImage silentBoard (boardCells silentBoard)) → ⊥
+unfolding ran
 silent-fails r =
-    let left : ran tiny (bytesOf (blankWhereSilent tiny silentImage silentBoard)) 100 (cellsOf silentBoard) [] .target .cells ≡ programmed tiny silentImage silentBoard (cellsOf silentBoard) =
-    r .recovers [] (cellsOf silentBoard) Cut.none 100 silent-steps .2 in
+    let left : ran tiny (bytesOf (blankWhereSilent tiny silentImage silentBoard)) 100 (boardCells silentBoard) [] .target .cells ≡ programmed tiny silentImage silentBoard (boardCells silentBoard) =
+    r .recovers [] (boardCells silentBoard) Cut.none 100 silent-steps .2 in
     let both : _≡_ {A = ℕ} 0x3fff 0x0123 = sym silent-leaves ∙ (ap (λ c. getD c 2 0) left ∙ silent-wanted) in
     omega arith
 
 -- ---- CP before the last row: the row that comes after it is not written, cut or not
 
-config-first-leaves : getD (ran tiny (bytesOf (configFirst tiny protectingImage blankTiny)) 100 (cellsOf blankTiny) [] .target .cells) 3 0 ≡ 0x3fff
-unfolding configFirst pick isWord bit wordsOf every build inRange entryOf successor rowOk wordsOk deviceOk chipOf counterAfter blank latchesAfter protected edit inProgram idCell configCell atErase rowErased bulkErased written latchOf burnt cellsAfter registersAfter entered loadOk load plain decoded orderNumber wordsAfter readAfter targetAfter room refusal obeyed advanced soundCells fresh stepAt turn after Run.begun ranOn runRefusal ran codeOf payloadOf stepBytes bytesOf known wanted differs some rowDiffers idDiffers updateWrites walk loads erasing rowSteps rowsFrom wordSteps writesFrom configSteps
+config-first-leaves : getD (ran tiny (bytesOf (configFirst tiny protectingImage blankTiny)) 100 (boardCells blankTiny) [] .target .cells) 3 0 ≡ 0x3fff
+unfolding configFirst pick isWord bit wordsOf every build inRange entryOf successor rowOk wordsOk deviceOk isConfig zeroBit blank locked edit
+    inProgram idCell configCell atErase rowErased bulkErased beginWritten latchOf burnt entered loadOk load plain decoded effect stepEffect soundCells
+    unread codeAt payloadAt onward turn after started runOf runRefusal ran codeOf payloadOf stepBytes bytesOf known wanted differs some rowDiffers
+    idDiffers configWrites walk loads setSteps erasing rowSteps rowsFrom wordSteps writesFrom configSteps taskOf updateTask rowsOf configOf
 config-first-leaves = refl
 
-config-first-wanted : getD (programmed tiny protectingImage blankTiny (cellsOf blankTiny)) 3 0 ≡ 0x1234
-unfolding programmed programmable pick build inRange known wanted
+config-first-wanted : getD (programmed tiny protectingImage blankTiny (boardCells blankTiny)) 3 0 ≡ 0x1234
+unfolding programmed programmable isConfig pick build inRange known wanted
 config-first-wanted = refl
 
 config-first-steps : Prim.Native.Nat._/_ (lib.ListN.length (bytesOf (configFirst tiny protectingImage blankTiny))) 3 ≤ 100
-unfolding configFirst codeOf payloadOf stepBytes bytesOf pick inRange known wanted differs some rowDiffers idDiffers updateWrites walk loads erasing rowSteps rowsFrom wordSteps writesFrom configSteps
+unfolding configFirst pick isConfig inRange codeOf payloadOf stepBytes bytesOf known wanted differs some rowDiffers idDiffers configWrites walk loads
+    setSteps erasing rowSteps rowsFrom wordSteps writesFrom configSteps taskOf updateTask rowsOf configOf
 config-first-steps = omega arith
 
-pub config-first-fails : Recovers tiny (bytesOf (configFirst tiny protectingImage blankTiny)) (cellsOf blankTiny) (programmed tiny protectingImage blankTiny (cellsOf blankTiny)) → ⊥
+pub config-first-fails : Recovers (modelOf tiny) (bytesOf (configFirst tiny protectingImage blankTiny)) (boardCells blankTiny) (programmed tiny protectingImage blankTiny (boardCells blankTiny)) → ⊥
+unfolding ran
 config-first-fails r =
-    let left : ran tiny (bytesOf (configFirst tiny protectingImage blankTiny)) 100 (cellsOf blankTiny) [] .target .cells ≡ programmed tiny protectingImage blankTiny (cellsOf blankTiny) =
-    r .recovers [] (cellsOf blankTiny) Cut.none 100 config-first-steps .2 in
+    let left : ran tiny (bytesOf (configFirst tiny protectingImage blankTiny)) 100 (boardCells blankTiny) [] .target .cells ≡ programmed tiny protectingImage blankTiny (boardCells blankTiny) =
+    r .recovers [] (boardCells blankTiny) Cut.none 100 config-first-steps .2 in
     let both : _≡_ {A = ℕ} 0x3fff 0x1234 = sym config-first-leaves ∙ (ap (λ c. getD c 3 0) left ∙ config-first-wanted) in
     omega arith
 
 -- ---- the row of the first loaded word: the model leaves other cells
 
-pub first-row-not-written : same (ran tiny (bytesOf acrossTwo) 100 (cellsOf blankTiny) [] .target .cells) firstRowWritten ≡ false
-unfolding same acrossTwo loadsFrom pick isWord bit wordsOf every build inRange entryOf successor rowOk wordsOk deviceOk chipOf counterAfter blank latchesAfter protected edit inProgram idCell configCell atErase rowErased bulkErased written latchOf burnt cellsAfter registersAfter entered loadOk load plain decoded orderNumber wordsAfter readAfter targetAfter room refusal obeyed advanced soundCells fresh stepAt turn after Run.begun ranOn runRefusal ran codeOf payloadOf stepBytes bytesOf known wanted differs some rowDiffers idDiffers updateWrites walk loads erasing rowSteps rowsFrom wordSteps writesFrom configSteps
+pub first-row-not-written : same (ran tiny (bytesOf acrossTwo) 100 (boardCells blankTiny) [] .target .cells) firstRowWritten ≡ false
+unfolding same acrossTwo loadsFrom pick isWord bit wordsOf every build inRange entryOf successor rowOk wordsOk deviceOk isConfig zeroBit blank locked
+    edit inProgram idCell configCell atErase rowErased bulkErased beginWritten latchOf burnt entered loadOk load plain decoded effect stepEffect
+    soundCells unread codeAt payloadAt onward turn after started runOf runRefusal ran codeOf payloadOf stepBytes bytesOf
 first-row-not-written = refl

@@ -23,7 +23,7 @@ pub struct Call {
 
 /// What 0 and 1 mean for calls that give no refusal numbers.
 pub const CLASSES: &str =
-    "words.*, print.*, next_line, line_from, first_number: 0 found or done, 1 nothing there (no room); is_words, is_image: the answer";
+    "words.*, print.*, next_line, line_from, first_number: 0 found or done, 1 nothing there (no room); is_words, is_image, is_reading, is_protected, programmable, id_fits: the answer";
 
 #[derive(Clone, Debug)]
 pub struct Request {
@@ -444,6 +444,40 @@ pub static CALLS: &[Call] = &[
         kinds: &[Num(16), Words],
         classes: &[0, 1],
         own: |f| truth(device::is_image(usize::from(n16(f, 0)), field::words(f, 1))),
+    },
+    Call {
+        name: "device.is_reading",
+        kinds: &[Num(16), Words],
+        classes: &[0, 1],
+        own: |f| {
+            truth(device::is_reading(
+                usize::from(n16(f, 0)),
+                field::words(f, 1),
+            ))
+        },
+    },
+    Call {
+        name: "device.is_protected",
+        kinds: &[Num(16), Words],
+        classes: &[0, 1],
+        own: |f| {
+            truth(device::is_protected(
+                usize::from(n16(f, 0)),
+                field::words(f, 1),
+            ))
+        },
+    },
+    Call {
+        name: "device.programmable",
+        kinds: &[Num(16), Num(64)],
+        classes: &[0, 1],
+        own: |f| truth(device::programmable(n16(f, 0), field::num(f, 1))),
+    },
+    Call {
+        name: "device.id_fits",
+        kinds: &[Num(16), Num(16), Num(16), Num(16), Num(16), Num(16)],
+        classes: &[0, 1],
+        own: |f| truth(device_at(f).id == n16(f, D)),
     },
     Call {
         name: "judge.checksum",

@@ -61,7 +61,7 @@ impl Device {
 
     /// Whether a list is a reading of this device.
     pub fn is_reading(&self, list: &[u16]) -> bool {
-        list.len() == self.entries() && list.iter().all(|&w| w <= WORD_MAX)
+        is_reading(self.p(), list)
     }
 
     /// Whether a reading, or cells, of this device is protected.
@@ -117,6 +117,22 @@ pub fn table(text: &[u8]) -> Option<Vec<Listed>> {
 pub fn find(text: &[u8], id: u16) -> Result<Listed, u32> {
     let listed = table(text).ok_or(15u32)?;
     listed.into_iter().find(|l| l.device.id == id).ok_or(16)
+}
+
+/// Whether a list is a reading with that many program words.
+pub fn is_reading(words: usize, list: &[u16]) -> bool {
+    list.len() == words + 9 && list.iter().all(|&w| w <= WORD_MAX)
+}
+
+/// Whether a list with that many program words has CP = 0; a word that is not there counts as 0.
+pub fn is_protected(words: usize, list: &[u16]) -> bool {
+    list.get(words + 7).is_none_or(|&w| w & CP == 0)
+}
+
+/// Whether an entry is a program word, a user ID or a configuration word.
+pub fn programmable(words: u16, i: u64) -> bool {
+    let past = i.checked_sub(u64::from(words));
+    matches!(past, None | Some(0..=3) | Some(7..=8))
 }
 
 /// Whether a list is an image with that many program words.

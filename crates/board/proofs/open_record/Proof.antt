@@ -11,13 +11,27 @@ find-device-requires : tie.Need-find-device-requires
 find-device-requires c κs = search needs
 
 returns : tie.Need-returns
-returns c = (opened-15 _ _ _ _ (c .before .before .before .before .read-id .ensures) (c .before .before .before .find-device .ensures) (c .if1 .taken), opened-device _ _ _ _ (c .before .before .before .before .read-id .ensures) (c .before .before .before .find-device .ensures))
+returns c = (
+  opened-15 _ _ _ _ (c .before .before .before .before .read-id .ensures) (c .before .before .before .find-device .ensures)
+      (c .if1 .taken),
+  opened-device _ _ _ _ (c .before .before .before .before .read-id .ensures) (c .before .before .before .find-device .ensures),
+)
 
 returns-2 : tie.Need-returns-2
-returns-2 c = (opened-14 _ _ _ _ (c .before .before .before .before .before .before .read-id .ensures) (c .before .before .before .before .before .find-device .ensures) (c .before .before .if1 .left) (c .if2 .taken), opened-device _ _ _ _ (c .before .before .before .before .before .before .read-id .ensures) (c .before .before .before .before .before .find-device .ensures))
+returns-2 c = (
+  opened-14 _ _ _ _ (c .before .before .before .before .before .before .read-id .ensures) (c .before .before .before .before .before .find-device .ensures)
+      (c .before .before .if1 .left) (c .if2 .taken),
+  opened-device _ _ _ _ (c .before .before .before .before .before .before .read-id .ensures)
+      (c .before .before .before .before .before .find-device .ensures),
+)
 
 returns-3 : tie.Need-returns-3
-returns-3 c = (opened-found _ _ _ _ (c .before .before .before .before .before .before .read-id .ensures) (c .before .before .before .before .before .find-device .ensures) (c .before .before .if1 .left) (c .if2 .left), opened-device _ _ _ _ (c .before .before .before .before .before .before .read-id .ensures) (c .before .before .before .before .before .find-device .ensures))
+returns-3 c = (
+  opened-found _ _ _ _ (c .before .before .before .before .before .before .read-id .ensures)
+      (c .before .before .before .before .before .find-device .ensures) (c .before .before .if1 .left) (c .if2 .left),
+  opened-device _ _ _ _
+      (c .before .before .before .before .before .before .read-id .ensures) (c .before .before .before .before .before .find-device .ensures),
+)
 
 pub open-record-spec : {M : Type 1} → statement M
 open-record-spec =

@@ -5,6 +5,7 @@ use mathlib.Core.Path.{sym, ap}
 use mathlib.Core.List.{_++_}
 use lib.ListN.{drop}
 use lib.Seq.{length-take-le}
+use Rattle.device.specs.Memory.{readingTail}
 use borrow.Author.Needs.{needs}
 use Rattle.board.proofs.read_front.Statement.{statement}
 use Rattle.board.proofs.read_front.Tie as tie
@@ -28,7 +29,12 @@ same-length : tie.Need-same-length
 same-length c = search needs
 
 returns : tie.Need-returns
-returns c = (c .before .before .read-sheet .ensures .0, ap (λ x. x ++ drop (c .before .before .before .before .before .before .before .args .d .words + 9) (now (c .before .before .before .before .before .before .before .args .words))) (c .before .before .read-sheet .ensures .1))
+returns c = (
+  c .before .before .read-sheet .ensures .0,
+  ap
+      (λ x. x ++ drop (c .before .before .before .before .before .before .before .args .d .words + readingTail)
+      (now (c .before .before .before .before .before .before .before .args .words))) (c .before .before .read-sheet .ensures .1),
+)
 
 pub read-front-spec : {M : Type 1} → statement M
 read-front-spec =

@@ -69,7 +69,8 @@ stayed = (stay-none-slice (0 ∷ []) tt (plain (λ _. u8)) yes, (stay-none (λ _
 abbrev Take : {M : Type 1} (𝓤 : URA M) (H : Heap 𝓤) (A : Atoms 𝓤) (mem : Memory → SProp 𝓤) (run : Routine → Fun 𝓤) → Contract 𝓤
 Take 𝓤 H A mem run = tripleOf 𝓤 H A take.signature (take.spec 𝓤 H A mem run)
 
-module _ {M : Type 1} (𝓤 : URA M) (H : Heap 𝓤) (A : Atoms 𝓤) (W : Given 𝓤 H A) (at-mem : Memory → SProp 𝓤) (run : Routine → Fun 𝓤) (κ : Lft) (q : Share) (s : RefT (List ℕ)) (n m : ℕ) (n-fits : n < 2 ^ 64) (m-fits : m < 2 ^ 32) where
+module _ {M : Type 1} (𝓤 : URA M) (H : Heap 𝓤) (A : Atoms 𝓤) (W : Given 𝓤 H A) (at-mem : Memory → SProp 𝓤) (run : Routine → Fun 𝓤) (κ : Lft) (q : Share)
+    (s : RefT (List ℕ)) (n m : ℕ) (n-fits : n < 2 ^ 64) (m-fits : m < 2 ^ 32) where
   -- the reader, its type and its laws
   abbrev α : NamedLft
   α = record { mir = named 1; lft = κ }
@@ -108,7 +109,8 @@ module _ {M : Type 1} (𝓤 : URA M) (H : Heap 𝓤) (A : Atoms 𝓤) (W : Given
   holds : ent 𝓤 (sem 𝓤 H A Owns) (sep 𝓤 (sem 𝓤 H A (R .own h (T′.lowered h ∷ []))) (sem 𝓤 H A Owns))
   holds =
       qed W (‵ Owns ∷ []) ∵ fsplit ! $ use1 W (‵ Own ⊛ ‵ Own) (shr-slice-copy 𝓤 H A W (named 0) κ u8 .twice s (v ∷ [])) $ split ! $
-      nothing ! $ owned ! u32 (Is u32) (uint-makes 𝓤 H A W w32) m _ (refl, m-fits) $ fjoin ! $ owned ! usize (Is usize) (uint-makes 𝓤 H A W w64) n _ (refl, n-fits) $ fjoin ! $ move ! (1 ∷ 0 ∷ []) $ fjoin ! $
+      nothing ! $ owned ! u32 (Is u32) (uint-makes 𝓤 H A W w32) m _ (refl, m-fits) $ fjoin ! $ owned ! usize (Is usize) (uint-makes 𝓤 H A W w64) n _
+      (refl, n-fits) $ fjoin ! $ move ! (1 ∷ 0 ∷ []) $ fjoin ! $
       use1 W (‵ (R .own h (T′.lowered h ∷ []))) (own-shut 𝓤 H A W D L (s, (n, (m, tt)))) $ frame ! $ fjoin ! $ done !
 
   -- a local that holds a reader: what stands in its cell, with what it owns, is a reader in memory
@@ -168,21 +170,25 @@ module _ {M : Type 1} (𝓤 : URA M) (H : Heap 𝓤) (A : Atoms 𝓤) (W : Given
     walk p =
         qed W ((‵ (flft κ q) ⊛ ‵ ftrue) ∷ ‵ Owns ∷ []) ∵ enter ! C Λ code.function (v ∷ vint w64 n ∷ vint w32 m ∷ []) _ $
         alloc1 ! (λ l₀. alloc1 ! (λ l₁. alloc1 ! (λ l₂. alloc1 ! (λ l₃. alloc1 ! (λ l₄. alloc1 ! (λ l₅. alloc0 ! $ params1 ! $
-        pass1 ! (init ! 8 refl (shr-slice-lawful 𝓤 H A W (named 0) κ u8 .typed s (v ∷ []) p .0)) $ pass1 ! (init ! 6 refl (tt, record { fits = n-fits })) $ pass1 ! (init ! 4 refl (tt, record { fits = m-fits })) $ pass0 ! $
+        pass1 ! (init ! 8 refl (shr-slice-lawful 𝓤 H A W (named 0) κ u8 .typed s (v ∷ []) p .0)) $ pass1 ! (init ! 6 refl (tt, record { fits = n-fits })) $ pass1 !
+        (init ! 4 refl (tt, record { fits = m-fits })) $ pass0 ! $
         -- [_5; …; _4; …; _3; …; _2; …; _1; …; room for _0; …; the token; what the parameters own]
-        assigns ! (agg ! (and-then ! (load ! (from ! (stop !)) (look ! 8 refl)) (and-then ! (load ! (from ! (stop !)) (look ! 6 refl)) (and-then ! (load ! (from ! (stop !)) (look ! 4 refl)) (no-more !))))) (from ! (stop !))
+        assigns ! (agg ! (and-then ! (load ! (from ! (stop !)) (look ! 8 refl))
+        (and-then ! (load ! (from ! (stop !)) (look ! 6 refl)) (and-then ! (load ! (from ! (stop !)) (look ! 4 refl)) (no-more !))))) (from ! (stop !))
         (init ! 2 refl (tt, (shr-slice-lawful 𝓤 H A W (named 0) κ u8 .typed s (v ∷ []) p .0 .1, (record { fits = n-fits }, (record { fits = m-fits }, tt))))) $
         assigns ! (addr ! (from ! (stop !))) (from ! (stop !)) (init ! 0 refl (tt, tt)) $
         -- the local is lent for a lifetime ν of the call
         move ! (13 ∷ []) $ use1 W (‵ (R .own h (T′.lowered h ∷ [])) ⊛ ‵ Owns) holds $ split ! $ move ! (4 ∷ 0 ∷ []) $ use2 W (‵ (mem R .lies h l₄ 0)) (lies-in l₄) $
         lft-new ! tt (λ ν. move ! (1 ∷ []) $
-        use1 W (later (some (λ (δ : GName). ‵ (MutRef (named 0) (ν ∷ κ) R .own (x l₄ δ) (vptr l₄ 0 ∷ [])) ⊛ ‵ (flent (ν ∷ κ) (Body (mem R) l₄ 0 δ))))) (lends-ref 𝓤 H A W R (named 0) (ν ∷ κ) h l₄ 0) $ await ! tt $ pick ! (λ δ. split ! $
+        use1 W (later (some (λ (δ : GName). ‵ (MutRef (named 0) (ν ∷ κ) R .own (x l₄ δ) (vptr l₄ 0 ∷ [])) ⊛ ‵ (flent (ν ∷ κ) (Body (mem R) l₄ 0 δ)))))
+        (lends-ref 𝓤 H A W R (named 0) (ν ∷ κ) h l₄ 0) $ await ! tt $ pick ! (λ δ. split ! $
         -- [the reference; the lender's part; ν's token; what the parameters own; _5; …; the end of _4; _3; …; _2; …; _1; …; room for _0; …; the token]
         move ! (2 ∷ 15 ∷ []) $ use2 W (‵ (flft (ν ∷ κ) (PosShare·left q)) ⊛ ‵ (flft κ (PosShare·right q)) ⊛ raw (Back ν)) (tokens ν) $ split ! $ move ! (1 ∷ []) $ split ! $
         move ! (3 ∷ 2 ∷ 0 ∷ []) $ use3 W (raw (Take 𝓤 H A at-mem run .pre (to l₄ ν δ))) (goes l₄ ν δ) $
         -- [what `take` asks; the way back; the lender's part; what the parameters own; _5; …]
         calls-at ! fm (Take 𝓤 H A at-mem run) known (to l₄ ν δ) (and-then ! (load ! (from ! (stop !)) (look ! 4 refl)) (no-more !)) (λ u.
-        use1 W (later (some (λ (r : NextLine). ((‵ (flft (ν ∷ κ) (PosShare·left q)) ⊛ ‵ (flft κ (PosShare·right q)) ⊛ ‵ ftrue) ⊛ ‵ (S.the-row .own r (u ∷ []))) ⊛ raw (ensured 𝓤 H A take.ended (take.clauses 𝓤 H A at-mem run) (ν ∷ κ, (κ, tt)) (x l₄ δ, tt) tt r)))) (id⊢ 𝓤 _) $ await ! tt $ pick ! (λ r.
+        use1 W (later (some (λ (r : NextLine). ((‵ (flft (ν ∷ κ) (PosShare·left q)) ⊛ ‵ (flft κ (PosShare·right q)) ⊛ ‵ ftrue) ⊛ ‵ (S.the-row .own r (u ∷ []))) ⊛ raw
+        (ensured 𝓤 H A take.ended (take.clauses 𝓤 H A at-mem run) (ν ∷ κ, (κ, tt)) (x l₄ δ, tt) tt r)))) (id⊢ 𝓤 _) $ await ! tt $ pick ! (λ r.
         -- what `take` ensures, at some last reader
         split ! $ move ! (1 ∷ []) $ use1 W (some (λ (zs : Lines × Unit {0}). ‵ (lasts take.ended (ν ∷ κ, (κ, tt)) (x l₄ δ, tt) zs) ⊛ raw (fact 𝓤 (Takes h r (zs .0))))) (id⊢ 𝓤 _) $ pick ! (λ zs.
         split ! $ move ! (1 ∷ []) $ heard ! (Takes h r (zs .0)) (λ e. fsplit ! $ move ! (2 ∷ []) $ split ! $ move ! (1 ∷ []) $
@@ -192,21 +198,29 @@ module _ {M : Type 1} (𝓤 : URA M) (H : Heap 𝓤) (A : Atoms 𝓤) (W : Given
         -- the lifetime is ended, and the local comes back
         move ! (1 ∷ 4 ∷ []) $ use2 W (‵ (flft (ν ∷ []) fullShare) ⊛ (‵ (flft κ q) ⊛ ‵ ftrue)) (tokens-back ν) $ split ! $ lft-end ! tt $
         use1 W (‵ (fdead (ν ∷ κ))) (W .lfts .dead-incl (ν ∷ κ) (ν ∷ []) (meet-⊑-left (ν ∷ []) κ)) $ move ! (0 ∷ 5 ∷ 3 ∷ []) $
-        use3 W (later (‵ (mem R .lies (zs .0) l₄ 0))) (ref-back 𝓤 H A W R (ν ∷ κ) δ (zs .0) l₄ 0) $ await ! tt $ use1 W (‵ (fat fullShare (T′.mir erased) l₄ 0 (T′.lowered (zs .0)))) (lies-out l₄ (zs .0)) $
+        use3 W (later (‵ (mem R .lies (zs .0) l₄ 0))) (ref-back 𝓤 H A W R (ν ∷ κ) δ (zs .0) l₄ 0) $ await ! tt $ use1 W
+        (‵ (fat fullShare (T′.mir erased) l₄ 0 (T′.lowered (zs .0)))) (lies-out l₄ (zs .0)) $
         -- [_4; the token; the answer; true; what the parameters own; _5; …; the end of _4; _3; …; _2; …; _1; …; _0; …]
         returns ! (look ! 14 refl) $ forget ! 0 refl $ forget ! 5 refl $ forget ! 8 refl $ forget ! 10 refl $ forget ! 12 refl $ forget ! 14 refl $
-        move ! (14 ∷ 15 ∷ []) $ free1 ! $ move ! (12 ∷ 13 ∷ []) $ free1 ! $ move ! (10 ∷ 11 ∷ []) $ free1 ! $ move ! (8 ∷ 9 ∷ []) $ free1 ! $ move ! (0 ∷ 7 ∷ []) $ free1 ! $ move ! (4 ∷ 5 ∷ []) $ free1 ! $ free0 ! $
+        move ! (14 ∷ 15 ∷ []) $ free1 ! $ move ! (12 ∷ 13 ∷ []) $ free1 ! $ move ! (10 ∷ 11 ∷ []) $ free1 ! $ move ! (8 ∷ 9 ∷ []) $ free1 ! $ move !
+        (0 ∷ 7 ∷ []) $ free1 ! $ move ! (4 ∷ 5 ∷ []) $ free1 ! $ free0 ! $
         keep ! (0 ∷ 1 ∷ 3 ∷ []) $ by ! (exits r u (taken-is h (zs .0) r e)))))))))))))))
 
 module _ {M : Type 1} (𝓤 : URA M) (H : Heap 𝓤) (A : Atoms 𝓤) (W : Given 𝓤 H A) (mem : Memory → SProp 𝓤) (run : Routine → Fun 𝓤) where
-  line-from-walks : (C : Calls 𝓤 H) (Λ : Loops 𝓤 H) → FmC 𝓤 H (W .laws) C → Triple 𝓤 (C #lines·take) (Take 𝓤 H A mem run) → Walks 𝓤 H A line-from.ended stayed (WpFn 𝓤 H C Λ code.function) (line-from.clauses 𝓤 H A mem run)
-  line-from-walks C Λ fm known = walked 𝓤 H A line-from.ended stayed (line-from.clauses 𝓤 H A mem run) (WpFn 𝓤 H C Λ code.function) (λ κs. (slice-vals, (uint-vals w64, (uint-vals w32, tt)))) (λ κs. (shr-slice-tells (named 0) (κs .0) u8, (uint-tells w64, (uint-tells w32, tt))))
+  line-from-walks : (C : Calls 𝓤 H) (Λ : Loops 𝓤 H) → FmC 𝓤 H (W .laws) C → Triple 𝓤 (C #lines·take) (Take 𝓤 H A mem run)
+      → Walks 𝓤 H A line-from.ended stayed (WpFn 𝓤 H C Λ code.function) (line-from.clauses 𝓤 H A mem run)
+  line-from-walks C Λ fm known = walked 𝓤 H A line-from.ended stayed (line-from.clauses 𝓤 H A mem run) (WpFn 𝓤 H C Λ code.function)
+      (λ κs. (slice-vals, (uint-vals w64, (uint-vals w32, tt)))) (λ κs. (shr-slice-tells (named 0) (κs .0) u8, (uint-tells w64, (uint-tells w32, tt))))
       (λ κs qs bounds a g are. via 𝓤 _ (fst∗ 𝓤 _ (emp 𝓤)) (walk 𝓤 H A W mem run (κs .0) (qs .0) (a .0) (a .1 .0) (a .1 .1 .0) (are .1 .0 .1) (are .1 .1 .0 .1) C Λ fm known (are .0)))
 
-line-from-meets : {M : Type 1} (𝓤 : URA M) (H : Heap 𝓤) (A : Atoms 𝓤) → Given 𝓤 H A → (mem : Memory → SProp 𝓤) (run : Routine → Fun 𝓤) (𝓣 : Tables 𝓤 H) → Triple 𝓤 (𝓣 .C #lines·take) (Take 𝓤 H A mem run)
+line-from-meets : {M : Type 1} (𝓤 : URA M) (H : Heap 𝓤) (A : Atoms 𝓤) → Given 𝓤 H A → (mem : Memory → SProp 𝓤) (run : Routine → Fun 𝓤) (𝓣 : Tables 𝓤 H)
+    → Triple 𝓤 (𝓣 .C #lines·take) (Take 𝓤 H A mem run)
     → Meets 𝓤 H A line-from.signature (WpFn 𝓤 H (𝓣 .C) (𝓣 .Λ) code.function) (line-from.spec 𝓤 H A mem run)
 line-from-meets 𝓤 H A W mem run 𝓣 known =
-    walk-meets 𝓤 H A line-from.ended stayed W (goes-none-slice 𝓤 H A W 1 (0 ∷ []) tt (plain (λ _. u8)) yes, (goes-none 𝓤 H A W 1 (λ _. usize) yes (λ κs x f. refl), (goes-none 𝓤 H A W 1 (λ _. u32) yes (λ κs x f. refl), tt))) (line-from.clauses 𝓤 H A mem run)
+    walk-meets 𝓤 H A line-from.ended stayed W (
+      goes-none-slice 𝓤 H A W 1 (0 ∷ []) tt (plain (λ _. u8)) yes,
+      (goes-none 𝓤 H A W 1 (λ _. usize) yes (λ κs x f. refl), (goes-none 𝓤 H A W 1 (λ _. u32) yes (λ κs x f. refl), tt)),
+    ) (line-from.clauses 𝓤 H A mem run)
     (WpFn 𝓤 H (𝓣 .C) (𝓣 .Λ) code.function) (WpFn-mono 𝓤 H (W .laws) 𝓣 code.function) (line-from-walks 𝓤 H A W mem run (𝓣 .C) (𝓣 .Λ) (fmOf 𝓤 H (W .laws) 𝓣) known)
 
 pub line-from-spec : {M : Type 1} → stated.statement M

@@ -16,13 +16,19 @@ put-number-requires : tie.Need-put-number-requires
 put-number-requires c κs = search needs
 
 put-number-requires-2 : tie.Need-put-number-requires-2
-put-number-requires-2 c κs = omega (arith, refused-end _ _ _ (c .before .before .before .before .before .before .before .text .ensures), number-end _ _ _ _ _ _ (c .before .before .before .put-number .ensures))
+put-number-requires-2 c κs = omega (
+  arith,
+  refused-end _ _ _ (c .before .before .before .before .before .before .before .text .ensures),
+  number-end _ _ _ _ _ _
+      (c .before .before .before .put-number .ensures),
+)
 
 same-length : tie.Need-same-length
 same-length c = search needs
 
 returns : tie.Need-returns
-returns c = refused-printed _ _ _ _ _ _ _ _ _ (c .before .before .before .before .before .before .before .before .before .before .text .ensures) (c .before .before .before .before .before .before .put-number .ensures) (c .before .before .put-number2 .ensures)
+returns c = refused-printed _ _ _ _ _ _ _ _ _ (c .before .before .before .before .before .before .before .before .before .before .text .ensures)
+    (c .before .before .before .before .before .before .put-number .ensures) (c .before .before .put-number2 .ensures)
 
 pub refusal-spec : {M : Type 1} → statement M
 refusal-spec =

@@ -31,7 +31,12 @@ loop-less : tie.Need-loop-less Inv-loop μ-loop
 loop-less c = omega arith
 
 loop-again : tie.Need-loop-again Inv-loop μ-loop
-loop-again c = (c .before .before .before .before .before .before .loop .inv .0 ∙ text-turn _ _ _ _ (c .before .before .before .before .before .loop-test .taken) (c .before .before .put .ensures), omega arith, search needs)
+loop-again c = (
+  c .before .before .before .before .before .before .loop .inv .0 ∙ text-turn _ _ _ _ (c .before .before .before .before .before .loop-test .taken)
+      (c .before .before .put .ensures),
+  omega arith,
+  search needs,
+)
 
 same-length : tie.Need-same-length Inv-loop μ-loop
 same-length c = search needs

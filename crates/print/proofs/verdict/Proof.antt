@@ -13,13 +13,20 @@ put-hex-requires : tie.Need-put-hex-requires
 put-hex-requires c κs = omega (arith, number-end _ _ _ _ _ _ (c .before .before .before .put-number .ensures))
 
 put-number-requires-2 : tie.Need-put-number-requires-2
-put-number-requires-2 c κs = omega (arith, number-end _ _ _ _ _ _ (c .before .before .before .before .before .before .before .put-number .ensures), hex-end _ _ _ _ _ _ (c .before .before .before .put-hex .ensures))
+put-number-requires-2 c κs = omega (
+  arith,
+  number-end _ _ _ _ _ _ (c .before .before .before .before .before .before .before .put-number .ensures),
+  hex-end _ _ _ _ _ _
+      (c .before .before .before .put-hex .ensures),
+)
 
 same-length : tie.Need-same-length
 same-length c = search needs
 
 returns : tie.Need-returns
-returns c = verdict-40 _ _ _ (c .before .before .before .before .before .before .before .before .before .before .before .before .if1 .taken) _ _ _ _ _ _ _ (c .before .before .before .before .before .before .before .before .before .before .put-number .ensures) (c .before .before .before .before .before .before .put-hex .ensures) (c .before .before .put-number2 .ensures)
+returns c = verdict-40 _ _ _ (c .before .before .before .before .before .before .before .before .before .before .before .before .if1 .taken) _ _ _ _ _ _ _
+    (c .before .before .before .before .before .before .before .before .before .before .put-number .ensures)
+    (c .before .before .before .before .before .before .put-hex .ensures) (c .before .before .put-number2 .ensures)
 
 put-number-requires-3 : tie.Need-put-number-requires-3
 put-number-requires-3 c κs = search needs

@@ -20,7 +20,8 @@ same-length : tie.Need-same-length
 same-length c = search needs
 
 returns : tie.Need-returns
-returns c = printed _ (trial-short _ _ _) (prints-as _ _ _ _ _ (trial-refused _ _ _ _ (c .before .before .before .before .before .before .open-board .ensures .0) (c .before .before .before .before .if1 .taken)) (c .before .before .refusal .ensures))
+returns c = printed _ (trial-short _ _ _) (prints-as _ _ _ _ _
+    (trial-refused _ _ _ _ (c .before .before .before .before .before .before .open-board .ensures .0) (c .before .before .before .before .if1 .taken)) (c .before .before .refusal .ensures))
 
 slice-aggregate-read-stream : tie.Need-slice-aggregate-read-stream
 slice-aggregate-read-stream c = search needs
@@ -35,7 +36,10 @@ same-length-2 : tie.Need-same-length-2
 same-length-2 c = search needs
 
 returns-2 : tie.Need-returns-2
-returns-2 c = printed _ (trial-short _ _ _) (prints-as _ _ _ _ _ (trial-34 _ _ _ _ (c .before .before .before .before .before .before .before .before .before .before .before .open-board .ensures .0) (c .before .before .before .before .before .before .before .before .before .if1 .left) _ _ _ _ (c .before .before .before .before .before .before .before .read-stream .ensures) (c .before .before .before .before .if2 .taken)) (c .before .before .refusal2 .ensures))
+returns-2 c = printed _ (trial-short _ _ _) (prints-as _ _ _ _ _
+    (trial-34 _ _ _ _ (c .before .before .before .before .before .before .before .before .before .before .before .open-board .ensures .0)
+    (c .before .before .before .before .before .before .before .before .before .if1 .left) _ _ _ _
+    (c .before .before .before .before .before .before .before .read-stream .ensures) (c .before .before .before .before .if2 .taken)) (c .before .before .refusal2 .ensures))
 
 cast-count : tie.Need-cast-count
 cast-count c = search needs
@@ -47,10 +51,16 @@ mul-length : tie.Need-mul-length
 mul-length c = search needs
 
 array-share-prefix-reading : tie.Need-array-share-prefix-reading
-array-share-prefix-reading c = (board-opened _ _ _ (c .before .before .before .before .before .before .before .before .before .before .open-board .ensures .0) (c .before .before .before .before .before .before .before .before .if1 .left) _ (c .before .before .before .before .before .before .before .before .before .before .open-board .ensures .1) _ (c .before .before .before .before .before .before .before .before .before .before .open-board .ensures .2)) .within
+array-share-prefix-reading c = (board-opened _ _ _ (c .before .before .before .before .before .before .before .before .before .before .open-board .ensures .0)
+    (c .before .before .before .before .before .before .before .before .if1 .left) _
+    (c .before .before .before .before .before .before .before .before .before .before .open-board .ensures .1) _
+    (c .before .before .before .before .before .before .before .before .before .before .open-board .ensures .2)) .within
 
 slice-aggregate-put-run : tie.Need-slice-aggregate-put-run
-slice-aggregate-put-run c = sym ((board-opened _ _ _ (c .before .before .before .before .before .before .before .before .before .before .before .open-board .ensures .0) (c .before .before .before .before .before .before .before .before .before .if1 .left) _ (c .before .before .before .before .before .before .before .before .before .before .before .open-board .ensures .1) _ (c .before .before .before .before .before .before .before .before .before .before .before .open-board .ensures .2)) .long)
+slice-aggregate-put-run c = sym ((board-opened _ _ _ (c .before .before .before .before .before .before .before .before .before .before .before .open-board .ensures .0)
+    (c .before .before .before .before .before .before .before .before .before .if1 .left) _
+    (c .before .before .before .before .before .before .before .before .before .before .before .open-board .ensures .1) _
+    (c .before .before .before .before .before .before .before .before .before .before .before .open-board .ensures .2)) .long)
 
 array-share-prefix-bytes : tie.Need-array-share-prefix-bytes
 array-share-prefix-bytes c = search needs
@@ -65,7 +75,8 @@ same-length-3 : tie.Need-same-length-3
 same-length-3 c = search needs
 
 returns-3 : tie.Need-returns-3
-returns-3 c = printed _ (trial-short _ _ _) (prints-as _ _ _ _ _ (trial-run _ _ _ _ (c .before .before .before .before .before .before .before .before .before .before .before .before .before .before .before .before .open-board .ensures .0) (c .before .before .before .before .before .before .before .before .before .before .before .before .before .before .if1 .left) _ _ _ _ (c .before .before .before .before .before .before .before .before .before .before .before .before .read-stream .ensures) (c .before .before .before .before .before .before .before .before .before .if2 .left) (length-replicate {A = ℕ} 98304 0) _ _ (board-opened _ _ _ (c .before .before .before .before .before .before .before .before .before .before .before .before .before .before .before .before .open-board .ensures .0) (c .before .before .before .before .before .before .before .before .before .before .before .before .before .before .if1 .left) _ (c .before .before .before .before .before .before .before .before .before .before .before .before .before .before .before .before .open-board .ensures .1) _ (c .before .before .before .before .before .before .before .before .before .before .before .before .before .before .before .before .open-board .ensures .2))) (c .before .before .put-run .ensures))
+returns-3 c = printed _ (trial-short _ _ _) (prints-as _ _ _ _ _
+    (trial-run _ _ _ _ (c .before .before .before .before .before .before .before .before .before .before .before .before .before .before .before .before .open-board .ensures .0) (c .before .before .before .before .before .before .before .before .before .before .before .before .before .before .if1 .left) _ _ _ _ (c .before .before .before .before .before .before .before .before .before .before .before .before .read-stream .ensures) (c .before .before .before .before .before .before .before .before .before .if2 .left) (length-replicate {A = ℕ} 98304 0) _ _ (board-opened _ _ _ (c .before .before .before .before .before .before .before .before .before .before .before .before .before .before .before .before .open-board .ensures .0) (c .before .before .before .before .before .before .before .before .before .before .before .before .before .before .if1 .left) _ (c .before .before .before .before .before .before .before .before .before .before .before .before .before .before .before .before .open-board .ensures .1) _ (c .before .before .before .before .before .before .before .before .before .before .before .before .before .before .before .before .open-board .ensures .2))) (c .before .before .put-run .ensures))
 
 pub trial-spec : {M : Type 1} → statement M
 trial-spec =

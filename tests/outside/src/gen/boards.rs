@@ -311,8 +311,71 @@ pub fn device(name: &str, aim: u32, rng: &mut Rng) -> Vec<Field> {
             let high = aim == 16 && rng.chance(10);
             vec![table.into(), (d.id | if high { 0x8000 } else { 0 }).into()]
         }
+        "is_reading" => is_reading(aim == 1, rng),
+        "is_protected" => {
+            let mut list = reading_for(&d, aim == 1, rng);
+            match rng.below(4) {
+                // Cells are looked at in the same way; a list that ends before the word is protected.
+                0 => list.push(0x3fff),
+                1 if aim == 1 => list.truncate(rng.below(d.p() + 8)),
+                _ => (),
+            }
+            vec![d.words.into(), list.into()]
+        }
+        "programmable" => {
+            let (words, i) = place(&d, aim == 1, rng);
+            vec![words.into(), i.into()]
+        }
+        "id_fits" => {
+            let mut fields = device_fields(&d);
+            fields.push(if aim == 1 { d.id } else { other_id(&d, rng) }.into());
+            fields
+        }
         _ => is_image(aim == 1, rng),
     }
+}
+
+/// A number other than the record's ID, at times one that another field has or that differs in one bit.
+fn other_id(d: &Device, rng: &mut Rng) -> u16 {
+    let bit = d.id ^ (1 << rng.below(16));
+    let any = number(16, rng) as u16;
+    let near = rng.pick(&[bit, d.words, d.row, d.mask1, d.mask2, any]);
+    if near == d.id {
+        bit
+    } else {
+        near
+    }
+}
+
+/// Program words, and an entry that can be programmed or cannot.
+fn place(d: &Device, yes: bool, rng: &mut Rng) -> (u16, u64) {
+    let words = if rng.chance(30) {
+        number(16, rng) as u16
+    } else {
+        d.words
+    };
+    let p = usize::from(words);
+    let i = match (yes, rng.below(3)) {
+        (true, 0) if p > 0 => rng.below(p),
+        (true, 1) => p + rng.below(4),
+        (true, _) => p + 7 + rng.below(2),
+        (false, 0) => p + 4 + rng.below(3),
+        (false, 1) => p + 9 + rng.below(12),
+        (false, _) => return (words, p as u64 + 9 + (number(64, rng) >> 1)),
+    };
+    (words, i as u64)
+}
+
+fn is_reading(yes: bool, rng: &mut Rng) -> Vec<Field> {
+    let mut d = any_device(rng);
+    if rng.chance(20) {
+        d.words = rng.below(50) as u16;
+    }
+    let mut reading = reading_for(&d, false, rng);
+    if !yes {
+        spoil_words(&mut reading, rng);
+    }
+    vec![d.words.into(), reading.into()]
 }
 
 fn is_image(yes: bool, rng: &mut Rng) -> Vec<Field> {

@@ -6,7 +6,8 @@ use Rattle.answer.proofs.serve.serve.Statement.{statement}
 use Rattle.answer.proofs.serve.serve.Tie as tie
 
 abbrev Inv-loop : tie.InvT-loop
-Inv-loop text₀ a₀ w₀ v₀ out₀ have₀ line₀ turns₀ text a w v out have line turns = (length text ≡ length text₀) × (length a ≡ length a₀) × (length w ≡ length w₀) × (length v ≡ length v₀) × (length out ≡ length out₀)
+Inv-loop text₀ a₀ w₀ v₀ out₀ have₀ line₀ turns₀ text a w v out have line turns = (length text ≡ length text₀) × (length a ≡ length a₀) × (length w ≡ length w₀) ×
+    (length v ≡ length v₀) × (length out ≡ length out₀)
 
 abbrev μ-loop : tie.MeasureT-loop
 μ-loop text₀ a₀ w₀ v₀ out₀ have₀ line₀ turns₀ text a w v out have line turns = turns

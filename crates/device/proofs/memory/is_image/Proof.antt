@@ -7,7 +7,7 @@ use borrow.Author.Needs.{needs}
 use borrow.Author.Count.{below-none, below-more}
 use lib.ListN.{length, getD}
 use denote.Ref.{now}
-use Rattle.device.specs.Memory.{entryOk}
+use Rattle.device.specs.Memory.{readingTail, entryOk}
 use Rattle.device.specs.LawsMemory.{image-of, image-short, image-bad}
 use Rattle.device.proofs.memory.is_image.Statement.{statement}
 use Rattle.device.proofs.memory.is_image.Tie as tie
@@ -16,7 +16,7 @@ use Rattle.device.proofs.memory.is_image.Lts as lts
 use Rattle.device.proofs.memory.entry_ok.Reads as entry-ok-reads
 
 abbrev Inv-loop : tie.InvT-loop
-Inv-loop words l n i₀ i = (i ≤ n) × (n ≡ words + 9) × (length l ≡ n) × ((k : ℕ) → k < i → entryOk words k (getD l k 0) ≡ true)
+Inv-loop words l n i₀ i = (i ≤ n) × (n ≡ words + readingTail) × (length l ≡ n) × ((k : ℕ) → k < i → entryOk words k (getD l k 0) ≡ true)
 
 abbrev μ-loop : tie.MeasureT-loop
 μ-loop words l n i₀ i = n - i
@@ -49,7 +49,15 @@ loop-less : tie.Need-loop-less Inv-loop μ-loop
 loop-less c = omega arith
 
 loop-again : tie.Need-loop-again Inv-loop μ-loop
-loop-again c = (omega arith, c .before .before .before .before .loop .inv .1, c .before .before .before .before .loop .inv .2, below-more (λ k. entryOk (c .before .before .before .before .before .before .before .args .words) k (getD (now (c .before .before .before .before .before .before .before .args .l)) k 0) ≡ true) (c .before .before .before .before .loop .i) (c .before .before .before .before .loop .inv .3) (sym (c .before .entry-ok .ensures) ∙ c .if2 .taken))
+loop-again c = (
+  omega arith,
+  c .before .before .before .before .loop .inv .1,
+  c .before .before .before .before .loop .inv .2,
+  below-more
+      (λ k. entryOk (c .before .before .before .before .before .before .before .args .words) k
+      (getD (now (c .before .before .before .before .before .before .before .args .l)) k 0) ≡ true) (c .before .before .before .before .loop .i)
+      (c .before .before .before .before .loop .inv .3) (sym (c .before .entry-ok .ensures) ∙ c .if2 .taken),
+)
 
 returns-3 : tie.Need-returns-3 Inv-loop μ-loop
 returns-3 c = sym (image-of _ _ (c .before .loop .inv .2 ∙ c .before .loop .inv .1) (λ k h. c .before .loop .inv .3 k (omega arith)))

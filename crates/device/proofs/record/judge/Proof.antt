@@ -34,7 +34,11 @@ returns-6 c = judged-bad _ (λ r. c .if6 .taken (r .cp-bit))
 
 returns-7 : tie.Need-returns-7
 unfolding bit
-returns-7 c = judged-all _ (sym (c .before .before .before .before .before .before .before .before .before .before .before .row-ok .ensures) ∙ c .before .before .before .before .before .before .before .before .before .before .if1 .taken) (sym (c .before .before .before .before .before .before .before .before .before .words-ok .ensures) ∙ c .before .before .before .before .before .before .before .before .if2 .taken) (c .before .before .before .before .before .before .if3 .left) (c .before .before .before .before .if4 .left) (c .before .before .if5 .left) (c .if6 .left)
+returns-7 c = judged-all _ (sym (c .before .before .before .before .before .before .before .before .before .before .before .row-ok .ensures)
+    ∙ c .before .before .before .before .before .before .before .before .before .before .if1 .taken)
+    (sym (c .before .before .before .before .before .before .before .before .before .words-ok .ensures)
+    ∙ c .before .before .before .before .before .before .before .before .if2 .taken) (c .before .before .before .before .before .before .if3 .left)
+    (c .before .before .before .before .if4 .left) (c .before .before .if5 .left) (c .if6 .left)
 
 pub judge-spec : {M : Type 1} → statement M
 judge-spec =

@@ -8,6 +8,9 @@ use Rattle.hexread.proofs.give.entry_at.Tie as tie
 enum-known-place : tie.Need-enum-known-place
 enum-known-place c = search needs
 
+cast-entry-of : tie.Need-cast-entry-of
+cast-entry-of c = search needs
+
 entry-of-requires : tie.Need-entry-of-requires
 entry-of-requires c κs = search needs
 
@@ -27,4 +30,4 @@ returns-2 c = ap (entryAt (c .before .before .args .words)) (sym (c .enum-told .
 
 pub entry-at-spec : {M : Type 1} → statement M
 entry-at-spec =
-    tie.close (tie.spec enum-known-place entry-of-requires enum-told add-result returns returns-2)
+    tie.close (tie.spec enum-known-place cast-entry-of entry-of-requires enum-told add-result returns returns-2)

@@ -30,41 +30,67 @@ halve-requires c κs = search needs
 entry-at-requires : tie.Need-entry-at-requires Inv-loop μ-loop
 entry-at-requires c κs = search needs
 
-can-give-requires : tie.Need-can-give-requires Inv-loop μ-loop
-can-give-requires c κs = search needs
+programmable-requires : tie.Need-programmable-requires Inv-loop μ-loop
+programmable-requires c κs = search needs
 
 same-length : tie.Need-same-length Inv-loop μ-loop
 same-length c = c .before .before .before .before .before .before .loop .inv .kept
 
 returns : tie.Need-returns Inv-loop μ-loop
-returns c = giving-7 _ _ _ _ _ _ _ _ (c .before .before .before .before .before .before .loop .inv) (c .before .before .before .before .before .loop-test .taken) _ (c .before .before .before .before .byte-address .ensures) _ (c .before .before .before .halve .ensures) _ (c .before .before .entry-at .ensures) _ (c .before .can-give .ensures) (c .if1 .left)
+returns c = giving-7 _ _ _ _ _ _ _ _ (c .before .before .before .before .before .before .loop .inv) (c .before .before .before .before .before .loop-test .taken) _
+    (c .before .before .before .before .byte-address .ensures) _ (c .before .before .before .halve .ensures) _ (c .before .before .entry-at .ensures) _
+    (c .before .programmable .ensures) (c .if1 .left)
 
 word-of-requires : tie.Need-word-of-requires Inv-loop μ-loop
-word-of-requires c κs = let g = c .before .before .before .before .before .before .loop .inv in (c .before .before .before .before .before .before .before .before .before .before .before .pre .0, omega arith)
+word-of-requires c κs = let g = c .before .before .before .before .before .before .loop .inv in
+    (c .before .before .before .before .before .before .before .before .before .before .before .pre .0, omega arith)
 
 same-length-2 : tie.Need-same-length-2 Inv-loop μ-loop
 same-length-2 c = c .before .before .before .before .before .before .before .before .loop .inv .kept
 
 returns-2 : tie.Need-returns-2 Inv-loop μ-loop
-returns-2 c = giving-8 _ _ _ _ _ _ _ _ (c .before .before .before .before .before .before .before .before .loop .inv) (c .before .before .before .before .before .before .before .loop-test .taken) _ (c .before .before .before .before .before .before .byte-address .ensures) _ (c .before .before .before .before .before .halve .ensures) _ (c .before .before .before .before .entry-at .ensures) _ (c .before .before .before .can-give .ensures) (c .before .before .if1 .taken) _ (c .before .word-of .ensures) (c .if2 .taken)
+returns-2 c = giving-8 _ _ _ _ _ _ _ _ (c .before .before .before .before .before .before .before .before .loop .inv)
+    (c .before .before .before .before .before .before .before .loop-test .taken) _ (c .before .before .before .before .before .before .byte-address .ensures) _
+    (c .before .before .before .before .before .halve .ensures) _ (c .before .before .before .before .entry-at .ensures) _
+    (c .before .before .before .programmable .ensures) (c .before .before .if1 .taken) _ (c .before .word-of .ensures) (c .if2 .taken)
 
 mul-if3 : tie.Need-mul-if3 Inv-loop μ-loop
-mul-if3 c = let h = entry-lt _ _ _ _ _ _ _ _ (c .before .before .before .before .before .before .before .before .loop .inv) (c .before .before .before .before .before .before .before .loop-test .taken) _ (c .before .before .before .before .before .before .byte-address .ensures) _ (c .before .before .before .before .before .halve .ensures) _ (c .before .before .before .before .entry-at .ensures) _ (c .before .before .before .can-give .ensures) (c .before .before .if1 .taken) in let g = c .before .before .before .before .before .before .before .before .loop .inv in omega arith
+mul-if3 c = let h = entry-lt _ _ _ _ _ _ _ _ (c .before .before .before .before .before .before .before .before .loop .inv)
+    (c .before .before .before .before .before .before .before .loop-test .taken) _ (c .before .before .before .before .before .before .byte-address .ensures) _
+    (c .before .before .before .before .before .halve .ensures) _ (c .before .before .before .before .entry-at .ensures) _
+    (c .before .before .before .programmable .ensures) (c .before .before .if1 .taken) in let g = c .before .before .before .before .before .before .before .before .loop .inv in omega arith
 
 slice-read-if3 : tie.Need-slice-read-if3 Inv-loop μ-loop
-slice-read-if3 c = entry-lt _ _ _ _ _ _ _ _ (c .before .before .before .before .before .before .before .before .before .loop .inv) (c .before .before .before .before .before .before .before .before .loop-test .taken) _ (c .before .before .before .before .before .before .before .byte-address .ensures) _ (c .before .before .before .before .before .before .halve .ensures) _ (c .before .before .before .before .before .entry-at .ensures) _ (c .before .before .before .before .can-give .ensures) (c .before .before .before .if1 .taken)
+slice-read-if3 c = entry-lt _ _ _ _ _ _ _ _ (c .before .before .before .before .before .before .before .before .before .loop .inv)
+    (c .before .before .before .before .before .before .before .before .loop-test .taken) _
+    (c .before .before .before .before .before .before .before .byte-address .ensures) _ (c .before .before .before .before .before .before .halve .ensures) _
+    (c .before .before .before .before .before .entry-at .ensures) _ (c .before .before .before .before .programmable .ensures) (c .before .before .before .if1 .taken)
 
 same-length-3 : tie.Need-same-length-3 Inv-loop μ-loop
 same-length-3 c = c .before .before .before .before .before .before .before .before .before .before .loop .inv .kept
 
 returns-3 : tie.Need-returns-3 Inv-loop μ-loop
-returns-3 c = giving-9 _ _ _ _ _ _ _ _ (c .before .before .before .before .before .before .before .before .before .before .loop .inv) (c .before .before .before .before .before .before .before .before .before .loop-test .taken) _ (c .before .before .before .before .before .before .before .before .byte-address .ensures) _ (c .before .before .before .before .before .before .before .halve .ensures) _ (c .before .before .before .before .before .before .entry-at .ensures) _ (c .before .before .before .before .before .can-give .ensures) (c .before .before .before .before .if1 .taken) _ (c .before .before .before .word-of .ensures) (c .before .before .if2 .left) (c .if3 .taken)
+returns-3 c = giving-9 _ _ _ _ _ _ _ _ (c .before .before .before .before .before .before .before .before .before .before .loop .inv)
+    (c .before .before .before .before .before .before .before .before .before .loop-test .taken) _
+    (c .before .before .before .before .before .before .before .before .byte-address .ensures) _
+    (c .before .before .before .before .before .before .before .halve .ensures) _ (c .before .before .before .before .before .before .entry-at .ensures) _
+    (c .before .before .before .before .before .programmable .ensures) (c .before .before .before .before .if1 .taken) _ (c .before .before .before .word-of .ensures)
+    (c .before .before .if2 .left) (c .if3 .taken)
 
 mul-image : tie.Need-mul-image Inv-loop μ-loop
-mul-image c = let h = entry-lt _ _ _ _ _ _ _ _ (c .before .before .before .before .before .before .before .before .before .before .loop .inv) (c .before .before .before .before .before .before .before .before .before .loop-test .taken) _ (c .before .before .before .before .before .before .before .before .byte-address .ensures) _ (c .before .before .before .before .before .before .before .halve .ensures) _ (c .before .before .before .before .before .before .entry-at .ensures) _ (c .before .before .before .before .before .can-give .ensures) (c .before .before .before .before .if1 .taken) in let g = c .before .before .before .before .before .before .before .before .before .before .loop .inv in omega arith
+mul-image c = let h = entry-lt _ _ _ _ _ _ _ _ (c .before .before .before .before .before .before .before .before .before .before .loop .inv)
+    (c .before .before .before .before .before .before .before .before .before .loop-test .taken) _
+    (c .before .before .before .before .before .before .before .before .byte-address .ensures) _
+    (c .before .before .before .before .before .before .before .halve .ensures) _ (c .before .before .before .before .before .before .entry-at .ensures) _
+    (c .before .before .before .before .before .programmable .ensures) (c .before .before .before .before .if1 .taken) in
+    let g = c .before .before .before .before .before .before .before .before .before .before .loop .inv in omega arith
 
 slice-write-image : tie.Need-slice-write-image Inv-loop μ-loop
-slice-write-image c = entry-lt _ _ _ _ _ _ _ _ (c .before .before .before .before .before .before .before .before .before .before .loop .inv) (c .before .before .before .before .before .before .before .before .before .loop-test .taken) _ (c .before .before .before .before .before .before .before .before .byte-address .ensures) _ (c .before .before .before .before .before .before .before .halve .ensures) _ (c .before .before .before .before .before .before .entry-at .ensures) _ (c .before .before .before .before .before .can-give .ensures) (c .before .before .before .before .if1 .taken)
+slice-write-image c = entry-lt _ _ _ _ _ _ _ _ (c .before .before .before .before .before .before .before .before .before .before .loop .inv)
+    (c .before .before .before .before .before .before .before .before .before .loop-test .taken) _
+    (c .before .before .before .before .before .before .before .before .byte-address .ensures) _
+    (c .before .before .before .before .before .before .before .halve .ensures) _ (c .before .before .before .before .before .before .entry-at .ensures) _
+    (c .before .before .before .before .before .programmable .ensures) (c .before .before .before .before .if1 .taken)
 
 add-j : tie.Need-add-j Inv-loop μ-loop
 add-j c = let g = c .before .before .before .before .before .before .before .before .before .before .loop .inv in omega arith
@@ -73,7 +99,12 @@ loop-less : tie.Need-loop-less Inv-loop μ-loop
 loop-less c = omega arith
 
 loop-again : tie.Need-loop-again Inv-loop μ-loop
-loop-again c = giving-on _ _ _ _ _ _ _ _ (c .before .before .before .before .before .before .before .before .before .before .loop .inv) (c .before .before .before .before .before .before .before .before .before .loop-test .taken) _ (c .before .before .before .before .before .before .before .before .byte-address .ensures) _ (c .before .before .before .before .before .before .before .halve .ensures) _ (c .before .before .before .before .before .before .entry-at .ensures) _ (c .before .before .before .before .before .can-give .ensures) (c .before .before .before .before .if1 .taken) _ (c .before .before .before .word-of .ensures) (c .before .before .if2 .left) (c .if3 .left)
+loop-again c = giving-on _ _ _ _ _ _ _ _ (c .before .before .before .before .before .before .before .before .before .before .loop .inv)
+    (c .before .before .before .before .before .before .before .before .before .loop-test .taken) _
+    (c .before .before .before .before .before .before .before .before .byte-address .ensures) _
+    (c .before .before .before .before .before .before .before .halve .ensures) _ (c .before .before .before .before .before .before .entry-at .ensures) _
+    (c .before .before .before .before .before .programmable .ensures) (c .before .before .before .before .if1 .taken) _ (c .before .before .before .word-of .ensures)
+    (c .before .before .if2 .left) (c .if3 .left)
 
 same-length-4 : tie.Need-same-length-4 Inv-loop μ-loop
 same-length-4 c = c .before .loop .inv .kept
@@ -93,7 +124,7 @@ give-words-spec =
     byte-address-requires
     halve-requires
     entry-at-requires
-    can-give-requires
+    programmable-requires
     same-length
     returns
     word-of-requires

@@ -36,7 +36,8 @@ same-length-2 : tie.Need-same-length-2 Inv-loop μ-loop
 same-length-2 c = c .before .before .before .before .before .loop .inv .kept
 
 returns-2 : tie.Need-returns-2 Inv-loop μ-loop
-returns-2 c = program-9 _ _ _ _ _ _ (c .before .before .before .before .before .loop .inv) (c .before .before .before .before .loop-test .taken) _ (c .before .before .before .word-at .ensures) (c .before .before .if1 .left) (c .if2 .taken)
+returns-2 c = program-9 _ _ _ _ _ _ (c .before .before .before .before .before .loop .inv) (c .before .before .before .before .loop-test .taken) _
+    (c .before .before .before .word-at .ensures) (c .before .before .if1 .left) (c .if2 .taken)
 
 add-image : tie.Need-add-image Inv-loop μ-loop
 add-image c = omega (arith, c .before .before .before .before .before .loop .inv .room)
@@ -54,7 +55,8 @@ loop-less : tie.Need-loop-less Inv-loop μ-loop
 loop-less c = omega arith
 
 loop-again : tie.Need-loop-again Inv-loop μ-loop
-loop-again c = program-on _ _ _ _ _ _ (c .before .before .before .before .before .loop .inv) (c .before .before .before .before .loop-test .taken) _ (c .before .before .before .word-at .ensures) (c .before .before .if1 .left) (c .if2 .left)
+loop-again c = program-on _ _ _ _ _ _ (c .before .before .before .before .before .loop .inv) (c .before .before .before .before .loop-test .taken) _
+    (c .before .before .before .word-at .ensures) (c .before .before .if1 .left) (c .if2 .left)
 
 same-length-3 : tie.Need-same-length-3 Inv-loop μ-loop
 same-length-3 c = c .before .loop .inv .kept

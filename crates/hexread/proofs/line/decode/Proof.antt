@@ -43,22 +43,28 @@ same-length : tie.Need-same-length Inv-loop μ-loop
 same-length c = c .before .before .before .before .before .before .loop .inv .long ∙ sym (c .before .before .before .before .before .before .before .before .before .pre .3)
 
 returns : tie.Need-returns Inv-loop μ-loop
-returns c = decoding-bad _ _ _ _ _ (c .before .before .before .before .before .before .loop .inv) (c .before .before .before .before .before .loop-test .taken) _ _ (c .before .before .before .digit .ensures) (c .before .digit2 .ensures) (c .if1 .taken) _
+returns c = decoding-bad _ _ _ _ _ (c .before .before .before .before .before .before .loop .inv) (c .before .before .before .before .before .loop-test .taken) _ _
+    (c .before .before .before .digit .ensures) (c .before .digit2 .ensures) (c .if1 .taken) _
 
 mul-b : tie.Need-mul-b Inv-loop μ-loop
-mul-b c = let f = byte-fits _ _ _ _ _ (c .before .before .before .before .before .before .loop .inv) (c .before .before .before .before .before .loop-test .taken) _ _ (c .before .before .before .digit .ensures) (c .before .digit2 .ensures) (c .if1 .left) in omega arith
+mul-b c = let f = byte-fits _ _ _ _ _ (c .before .before .before .before .before .before .loop .inv) (c .before .before .before .before .before .loop-test .taken) _ _
+    (c .before .before .before .digit .ensures) (c .before .digit2 .ensures) (c .if1 .left) in omega arith
 
 add-b : tie.Need-add-b Inv-loop μ-loop
-add-b c = let f = byte-fits _ _ _ _ _ (c .before .before .before .before .before .before .loop .inv) (c .before .before .before .before .before .loop-test .taken) _ _ (c .before .before .before .digit .ensures) (c .before .digit2 .ensures) (c .if1 .left) in omega arith
+add-b c = let f = byte-fits _ _ _ _ _ (c .before .before .before .before .before .before .loop .inv) (c .before .before .before .before .before .loop-test .taken) _ _
+    (c .before .before .before .digit .ensures) (c .before .digit2 .ensures) (c .if1 .left) in omega arith
 
 slice-write-bytes : tie.Need-slice-write-bytes Inv-loop μ-loop
 slice-write-bytes c = let d = c .before .before .before .before .before .before .loop .inv in omega arith
 
 cast-sum : tie.Need-cast-sum Inv-loop μ-loop
-cast-sum c = let f = byte-fits _ _ _ _ _ (c .before .before .before .before .before .before .loop .inv) (c .before .before .before .before .before .loop-test .taken) _ _ (c .before .before .before .digit .ensures) (c .before .digit2 .ensures) (c .if1 .left) in omega arith
+cast-sum c = let f = byte-fits _ _ _ _ _ (c .before .before .before .before .before .before .loop .inv) (c .before .before .before .before .before .loop-test .taken) _ _
+    (c .before .before .before .digit .ensures) (c .before .digit2 .ensures) (c .if1 .left) in omega arith
 
 add-sum : tie.Need-add-sum Inv-loop μ-loop
-add-sum c = let f = byte-fits _ _ _ _ _ (c .before .before .before .before .before .before .loop .inv) (c .before .before .before .before .before .loop-test .taken) _ _ (c .before .before .before .digit .ensures) (c .before .digit2 .ensures) (c .if1 .left) in let s = c .before .before .before .before .before .before .loop .inv .summed in let d = c .before .before .before .before .before .before .loop .inv in omega arith
+add-sum c = let f = byte-fits _ _ _ _ _ (c .before .before .before .before .before .before .loop .inv) (c .before .before .before .before .before .loop-test .taken) _ _
+    (c .before .before .before .digit .ensures) (c .before .digit2 .ensures) (c .if1 .left) in
+    let s = c .before .before .before .before .before .before .loop .inv .summed in let d = c .before .before .before .before .before .before .loop .inv in omega arith
 
 add-j : tie.Need-add-j Inv-loop μ-loop
 add-j c = let d = c .before .before .before .before .before .before .loop .inv in omega arith
@@ -67,7 +73,8 @@ loop-less : tie.Need-loop-less Inv-loop μ-loop
 loop-less c = omega arith
 
 loop-again : tie.Need-loop-again Inv-loop μ-loop
-loop-again c = decoding-more _ _ _ _ _ (c .before .before .before .before .before .before .loop .inv) (c .before .before .before .before .before .loop-test .taken) _ _ (c .before .before .before .digit .ensures) (c .before .digit2 .ensures) (c .if1 .left)
+loop-again c = decoding-more _ _ _ _ _ (c .before .before .before .before .before .before .loop .inv) (c .before .before .before .before .before .loop-test .taken) _ _
+    (c .before .before .before .digit .ensures) (c .before .digit2 .ensures) (c .if1 .left)
 
 cast-result : tie.Need-cast-result Inv-loop μ-loop
 cast-result c = omega arith

@@ -42,13 +42,17 @@ same-length : tie.Need-same-length
 same-length c = search needs
 
 returns-5 : tie.Need-returns-5
-returns-5 c = judged-2 _ _ (no-digits _ _ (c .before .before .before .before .before .before .before .count-of .ensures) (c .before .before .before .before .before .before .before .before .if2 .left) (c .before .before .before .before .before .before .if3 .left) (c .before .before .before .before .before .if4 .left) _ (c .before .before .before .decode .ensures .sum) (c .if5 .taken))
+returns-5 c = judged-2 _ _ (no-digits _ _ (c .before .before .before .before .before .before .before .count-of .ensures)
+    (c .before .before .before .before .before .before .before .before .if2 .left) (c .before .before .before .before .before .before .if3 .left)
+    (c .before .before .before .before .before .if4 .left) _ (c .before .before .before .decode .ensures .sum) (c .if5 .taken))
 
 same-length-2 : tie.Need-same-length-2
 same-length-2 c = search needs
 
 returns-6 : tie.Need-returns-6
-returns-6 c = judged-3 _ _ (wrong-sum _ _ (c .before .before .before .before .before .before .before .before .count-of .ensures) (c .before .before .before .before .before .before .before .before .before .if2 .left) (c .before .before .before .before .before .before .before .if3 .left) (c .before .before .before .before .before .before .if4 .left) _ (c .before .before .before .before .decode .ensures .sum) (c .before .if5 .left) (c .if6 .taken))
+returns-6 c = judged-3 _ _ (wrong-sum _ _ (c .before .before .before .before .before .before .before .before .count-of .ensures)
+    (c .before .before .before .before .before .before .before .before .before .if2 .left) (c .before .before .before .before .before .before .before .if3 .left)
+    (c .before .before .before .before .before .before .if4 .left) _ (c .before .before .before .before .decode .ensures .sum) (c .before .if5 .left) (c .if6 .taken))
 
 slice-read-judge-kind : tie.Need-slice-read-judge-kind
 slice-read-judge-kind c = search needs
@@ -63,7 +67,12 @@ same-length-3 : tie.Need-same-length-3
 same-length-3 c = search needs
 
 returns-7 : tie.Need-returns-7
-returns-7 c = judged-kind _ _ _ (c .before .before .before .before .before .before .before .before .before .before .before .before .count-of .ensures) (c .before .before .before .before .before .before .before .before .before .before .before .before .before .if2 .left) (c .before .before .before .before .before .before .before .before .before .before .before .if3 .left) (c .before .before .before .before .before .before .before .before .before .before .if4 .left) _ (c .before .before .before .before .before .before .before .before .decode .ensures) (c .before .before .before .before .before .if5 .left) (c .before .before .before .before .if6 .left) _ _ (c .before .offset-of .ensures) (c .judge-kind .ensures)
+returns-7 c = judged-kind _ _ _ (c .before .before .before .before .before .before .before .before .before .before .before .before .count-of .ensures)
+    (c .before .before .before .before .before .before .before .before .before .before .before .before .before .if2 .left)
+    (c .before .before .before .before .before .before .before .before .before .before .before .if3 .left)
+    (c .before .before .before .before .before .before .before .before .before .before .if4 .left) _
+    (c .before .before .before .before .before .before .before .before .decode .ensures) (c .before .before .before .before .before .if5 .left)
+    (c .before .before .before .before .if6 .left) _ _ (c .before .offset-of .ensures) (c .judge-kind .ensures)
 
 pub judge-line-spec : {M : Type 1} → statement M
 judge-line-spec =

@@ -18,13 +18,19 @@ add-if1 : tie.Need-add-if1
 add-if1 c = omega (arith, c .shared-slice-known2 .given 0, c .before .first-entry .ensures .most)
 
 give-program-requires : tie.Need-give-program-requires
-give-program-requires c κs = (c .before .before .before .before .before .before .pre .0, omega (arith, c .before .before .shared-slice-known2 .given 0), omega (arith, c .before .before .before .before .before .before .pre .1, c .before .if1 .taken))
+give-program-requires c κs = (
+  c .before .before .before .before .before .before .pre .0,
+  omega (arith, c .before .before .shared-slice-known2 .given 0),
+  omega
+      (arith, c .before .before .before .before .before .before .pre .1, c .before .if1 .taken),
+)
 
 same-length : tie.Need-same-length
 same-length c = search needs
 
 returns : tie.Need-returns
-returns c = c .before .before .give-program .ensures _ _ (record { start = c .before .before .before .before .before .before .first-entry .ensures; size = refl; within = c .before .before .before .before .if1 .taken; small = omega arith })
+returns c = c .before .before .give-program .ensures _ _
+    (record { start = c .before .before .before .before .before .before .first-entry .ensures; size = refl; within = c .before .before .before .before .if1 .taken; small = omega arith })
 
 give-words-requires : tie.Need-give-words-requires
 give-words-requires c κs = search needs

@@ -17,7 +17,8 @@ same-length : tie.Need-same-length
 same-length c = search needs
 
 returns-3 : tie.Need-returns-3
-returns-3 c = step-bad _ _ _ _ _ (c .before .before .before .before .before .before .if1 .left) (c .before .before .before .before .before .if2 .left) _ (c .before .before .before .judge-line .ensures .number) (c .if3 .taken)
+returns-3 c = step-bad _ _ _ _ _ (c .before .before .before .before .before .before .if1 .left) (c .before .before .before .before .before .if2 .left) _
+    (c .before .before .before .judge-line .ensures .number) (c .if3 .taken)
 
 take-record-requires : tie.Need-take-record-requires
 take-record-requires c κs = search needs
@@ -29,7 +30,10 @@ same-length-3 : tie.Need-same-length-3
 same-length-3 c = search needs
 
 returns-4 : tie.Need-returns-4
-returns-4 c = step-record _ _ _ _ _ (c .before .before .before .before .before .before .before .before .before .before .before .if1 .left) (c .before .before .before .before .before .before .before .before .before .before .if2 .left) _ (c .before .before .before .before .before .before .before .before .judge-line .ensures .number) (c .before .before .before .before .before .if3 .left) _ (c .before .before .take-record .ensures _ (c .before .before .before .before .before .before .before .before .judge-line .ensures .sound (c .before .before .before .before .before .if3 .left)))
+returns-4 c = step-record _ _ _ _ _ (c .before .before .before .before .before .before .before .before .before .before .before .if1 .left)
+    (c .before .before .before .before .before .before .before .before .before .before .if2 .left) _
+    (c .before .before .before .before .before .before .before .before .judge-line .ensures .number) (c .before .before .before .before .before .if3 .left) _
+    (c .before .before .take-record .ensures _ (c .before .before .before .before .before .before .before .before .judge-line .ensures .sound (c .before .before .before .before .before .if3 .left)))
 
 pub take-line-spec : {M : Type 1} → statement M
 take-line-spec =

@@ -40,7 +40,8 @@ add-t19 : tie.Need-add-t19
 add-t19 c = omega (arith, c .before .before .before .before .before .before .shared-slice-known .given 4, c .before .before .before .before .before .before .shared-slice-known .given 5)
 
 returns-3 : tie.Need-returns-3
-returns-3 c = λ line s. record-upper _ line _ _ _ (sound-byte line _ s 3 (omega arith)) (c .before .before .before .if1 .left) (c .before .before .if2 .left) _ _ (sound-high line _ s (c .before .before .before .if1 .left) (c .before .before .if2 .left)) (sound-low line _ s (c .before .before .before .if1 .left) (c .before .before .if2 .left))
+returns-3 c = λ line s. record-upper _ line _ _ _ (sound-byte line _ s 3 (omega arith)) (c .before .before .before .if1 .left) (c .before .before .if2 .left) _ _
+    (sound-high line _ s (c .before .before .before .if1 .left) (c .before .before .if2 .left)) (sound-low line _ s (c .before .before .before .if1 .left) (c .before .before .if2 .left))
 
 pub take-record-spec : {M : Type 1} → statement M
 take-record-spec =

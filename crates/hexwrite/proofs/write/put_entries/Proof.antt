@@ -47,7 +47,10 @@ loop-less-2 : tie.Need-loop-less-2 Inv-loop μ-loop
 loop-less-2 c = omega arith
 
 loop-again-2 : tie.Need-loop-again-2 Inv-loop μ-loop
-loop-again-2 c = turn-on _ _ _ _ _ _ _ (c .before .before .before .before .before .before .before .before .before .before .loop .inv) (c .before .before .before .before .before .before .before .before .before .before .before .before .before .pre .2) _ (c .before .before .before .before .before .before .run-stop .ensures) _ (c .before .before .before .before .before .hex-address .ensures) _ _ _ (c .before .before .before .put-run .ensures) (c .upper-half .ensures)
+loop-again-2 c = turn-on _ _ _ _ _ _ _ (c .before .before .before .before .before .before .before .before .before .before .loop .inv)
+    (c .before .before .before .before .before .before .before .before .before .before .before .before .before .pre .2) _
+    (c .before .before .before .before .before .before .run-stop .ensures) _ (c .before .before .before .before .before .hex-address .ensures) _ _ _
+    (c .before .before .before .put-run .ensures) (c .upper-half .ensures)
 
 same-length : tie.Need-same-length Inv-loop μ-loop
 same-length c = left-room (c .before .loop .inv .left)

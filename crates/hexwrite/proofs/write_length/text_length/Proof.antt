@@ -53,7 +53,9 @@ loop-less-2 : tie.Need-loop-less-2 Inv-loop μ-loop
 loop-less-2 c = omega arith
 
 loop-again-2 : tie.Need-loop-again-2 Inv-loop μ-loop
-loop-again-2 c = counted-on _ _ _ _ _ (c .before .before .before .before .before .before .before .loop .inv) (c .before .before .before .before .before .before .before .before .before .pre .1) _ _ _ (c .before .before .before .run-stop .ensures) (upper-read _ _ _ _ (c .before .before .hex-address .ensures) (c .before .upper-half .ensures)) (c .run-length .ensures .0)
+loop-again-2 c = counted-on _ _ _ _ _ (c .before .before .before .before .before .before .before .loop .inv)
+    (c .before .before .before .before .before .before .before .before .before .pre .1) _ _ _ (c .before .before .before .run-stop .ensures)
+    (upper-read _ _ _ _ (c .before .before .hex-address .ensures) (c .before .upper-half .ensures)) (c .run-length .ensures .0)
 
 returns : tie.Need-returns Inv-loop μ-loop
 returns c = counted-all _ _ _ _ _ (c .before .loop .inv) (omega arith)

@@ -21,25 +21,57 @@ add-put-pair-2 : tie.Need-add-put-pair-2
 add-put-pair-2 c = search needs
 
 put-pair-requires-2 : tie.Need-put-pair-requires-2
-put-pair-requires-2 c κs = (c .before .before .before .before .before .before .pre .0, omega (arith, length-set (now (c .before .before .before .before .before .before .args .out)) (c .before .before .before .before .before .before .args .at) 0x3a, c .before .before .before .put-pair .kept .0))
+put-pair-requires-2 c κs = (
+  c .before .before .before .before .before .before .pre .0,
+  omega (
+    arith,
+    length-set (now (c .before .before .before .before .before .before .args .out))
+        (c .before .before .before .before .before .before .args .at) 0x3a,
+    c .before .before .before .put-pair .kept .0,
+  ),
+)
 
 add-put-pair-3 : tie.Need-add-put-pair-3
 add-put-pair-3 c = search needs
 
 put-pair-requires-3 : tie.Need-put-pair-requires-3
-put-pair-requires-3 c κs = (c .before .before .before .before .before .before .before .before .before .before .pre .0, omega (arith, length-set (now (c .before .before .before .before .before .before .before .before .before .before .args .out)) (c .before .before .before .before .before .before .before .before .before .before .args .at) 0x3a, c .before .before .before .before .before .before .before .put-pair .kept .0, c .before .before .before .put-pair2 .kept .0))
+put-pair-requires-3 c κs = (
+  c .before .before .before .before .before .before .before .before .before .before .pre .0,
+  omega (
+    arith,
+    length-set (now (c .before .before .before .before .before .before .before .before .before .before .args .out))
+        (c .before .before .before .before .before .before .before .before .before .before .args .at) 0x3a,
+    c .before .before .before .before .before .before .before .put-pair .kept .0,
+    c .before .before .before .put-pair2 .kept .0,
+  ),
+)
 
 add-put-pair-4 : tie.Need-add-put-pair-4
 add-put-pair-4 c = search needs
 
 put-pair-requires-4 : tie.Need-put-pair-requires-4
-put-pair-requires-4 c κs = (c .before .before .before .before .before .before .before .before .before .before .before .before .before .before .pre .0, omega (arith, length-set (now (c .before .before .before .before .before .before .before .before .before .before .before .before .before .before .args .out)) (c .before .before .before .before .before .before .before .before .before .before .before .before .before .before .args .at) 0x3a, c .before .before .before .before .before .before .before .before .before .before .before .put-pair .kept .0, c .before .before .before .before .before .before .before .put-pair2 .kept .0, c .before .before .before .put-pair3 .kept .0))
+put-pair-requires-4 c κs = (
+  c .before .before .before .before .before .before .before .before .before .before .before .before .before .before .pre .0,
+  omega (
+    arith,
+    length-set (now (c .before .before .before .before .before .before .before .before .before .before .before .before .before .before .args .out))
+        (c .before .before .before .before .before .before .before .before .before .before .before .before .before .before .args .at) 0x3a,
+    c .before .before .before .before .before .before .before .before .before .before .before .put-pair .kept .0,
+    c .before .before .before .before .before .before .before .put-pair2 .kept .0,
+    c .before .before .before .put-pair3 .kept .0,
+  ),
+)
 
 add-result : tie.Need-add-result
 add-result c = search needs
 
 same-length : tie.Need-same-length
-same-length c = c .before .before .put-pair4 .kept .0 ∙ (c .before .before .before .before .before .before .put-pair3 .kept .0 ∙ (c .before .before .before .before .before .before .before .before .before .before .put-pair2 .kept .0 ∙ (c .before .before .before .before .before .before .before .before .before .before .before .before .before .before .put-pair .kept .0 ∙ length-set (now (c .before .before .before .before .before .before .before .before .before .before .before .before .before .before .before .before .before .args .out)) (c .before .before .before .before .before .before .before .before .before .before .before .before .before .before .before .before .before .args .at) 0x3a)))
+same-length c = c .before .before .put-pair4 .kept .0 ∙
+    (c .before .before .before .before .before .before .put-pair3 .kept .0 ∙
+    (c .before .before .before .before .before .before .before .before .before .before .put-pair2 .kept .0 ∙
+    (c .before .before .before .before .before .before .before .before .before .before .before .before .before .before .put-pair .kept .0 ∙ length-set
+    (now (c .before .before .before .before .before .before .before .before .before .before .before .before .before .before .before .before .before .args .out))
+    (c .before .before .before .before .before .before .before .before .before .before .before .before .before .before .before .before .before .args .at) 0x3a)))
 
 returns : tie.Need-returns
 returns c = (head-put _ _ _ _ _ _ _ _ _ _ (c .before .before .before .before .before .before .before .before .before .before .before .before .before .before .put-pair .ensures) (c .before .before .before .before .before .before .before .before .before .before .put-pair2 .ensures) (c .before .before .before .before .before .before .put-pair3 .ensures) (c .before .before .put-pair4 .ensures), refl)

@@ -54,13 +54,18 @@ add-put-sum-4 : tie.Need-add-put-sum-4
 add-put-sum-4 c = search needs
 
 put-sum-requires : tie.Need-put-sum-requires
-put-sum-requires c κs = (c .before .before .before .before .before .before .before .before .before .before .before .before .before .pre .0, omega (arith, c .before .before .before .put-words .kept .0, c .before .before .before .before .before .before .before .put-head .kept .0))
+put-sum-requires c κs = (
+  c .before .before .before .before .before .before .before .before .before .before .before .before .before .pre .0,
+  omega
+      (arith, c .before .before .before .put-words .kept .0, c .before .before .before .before .before .before .before .put-head .kept .0),
+)
 
 same-length : tie.Need-same-length
 same-length c = search needs
 
 returns : tie.Need-returns
-returns c = data-put _ _ _ _ _ _ _ _ _ _ _ _ (c .before .before .before .before .before .before .before .before .before .before .put-head .ensures .0) (c .before .before .before .before .before .before .put-words .ensures) (c .before .before .put-sum .ensures)
+returns c = data-put _ _ _ _ _ _ _ _ _ _ _ _ (c .before .before .before .before .before .before .before .before .before .before .put-head .ensures .0)
+    (c .before .before .before .before .before .before .put-words .ensures) (c .before .before .put-sum .ensures)
 
 pub put-data-spec : {M : Type 1} → statement M
 put-data-spec =

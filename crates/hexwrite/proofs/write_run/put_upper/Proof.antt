@@ -18,13 +18,22 @@ put-head-requires : tie.Need-put-head-requires
 put-head-requires c κs = (c .before .before .before .pre .0, (let n = length-new _ _ (c .before .if1 .left) in omega arith))
 
 put-pair-requires : tie.Need-put-pair-requires
-put-pair-requires c κs = (c .before .before .before .before .before .before .before .pre .0, let n = length-new _ _ (c .before .before .before .before .before .if1 .left) in omega (arith, c .before .before .before .put-head .kept .0))
+put-pair-requires c κs = (
+  c .before .before .before .before .before .before .before .pre .0,
+  let n = length-new _ _
+      (c .before .before .before .before .before .if1 .left) in omega (arith, c .before .before .before .put-head .kept .0),
+)
 
 add-put-pair : tie.Need-add-put-pair
 add-put-pair c = let n = length-new _ _ (c .before .before .before .before .before .before .before .before .before .if1 .left) in omega arith
 
 put-pair-requires-2 : tie.Need-put-pair-requires-2
-put-pair-requires-2 c κs = (c .before .before .before .before .before .before .before .before .before .before .before .pre .0, let n = length-new _ _ (c .before .before .before .before .before .before .before .before .before .if1 .left) in omega (arith, c .before .before .before .before .before .before .before .put-head .kept .0, c .before .before .before .put-pair .kept .0))
+put-pair-requires-2 c κs = (
+  c .before .before .before .before .before .before .before .before .before .before .before .pre .0,
+  let n = length-new _ _
+      (c .before .before .before .before .before .before .before .before .before .if1 .left) in omega
+      (arith, c .before .before .before .before .before .before .before .put-head .kept .0, c .before .before .before .put-pair .kept .0),
+)
 
 add-put-sum : tie.Need-add-put-sum
 add-put-sum c = let n = length-new _ _ (c .before .before .before .before .before .before .before .before .before .before .before .before .before .if1 .left) in omega arith

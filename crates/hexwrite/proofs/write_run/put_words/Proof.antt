@@ -39,13 +39,22 @@ cast-sum : tie.Need-cast-sum Inv-loop μ-loop
 cast-sum c = omega arith
 
 cast-sum-2 : tie.Need-cast-sum-2 Inv-loop μ-loop
-cast-sum-2 c = omega (arith, c .before .before .before .before .before .before .before .before .shared-slice-known2 .given (c .before .before .before .before .before .before .before .before .before .before .loop .i))
+cast-sum-2 c = omega (
+  arith,
+  c .before .before .before .before .before .before .before .before .shared-slice-known2 .given
+      (c .before .before .before .before .before .before .before .before .before .before .loop .i),
+)
 
 add-sum : tie.Need-add-sum Inv-loop μ-loop
-add-sum c = omega (arith, c .before .before .before .before .before .before .before .before .shared-slice-known2 .given (c .before .before .before .before .before .before .before .before .before .before .loop .i))
+add-sum c = omega (
+  arith,
+  c .before .before .before .before .before .before .before .before .shared-slice-known2 .given
+      (c .before .before .before .before .before .before .before .before .before .before .loop .i),
+)
 
 add-sum-2 : tie.Need-add-sum-2 Inv-loop μ-loop
-add-sum-2 c = let p = c .before .before .before .before .before .before .before .before .before .before .loop .inv in omega (arith, c .before .before .before .before .before .before .before .before .shared-slice-known2 .given (c .before .before .before .before .before .before .before .before .before .before .loop .i))
+add-sum-2 c = let p = c .before .before .before .before .before .before .before .before .before .before .loop .inv in omega
+    (arith, c .before .before .before .before .before .before .before .before .shared-slice-known2 .given (c .before .before .before .before .before .before .before .before .before .before .loop .i))
 
 add-to : tie.Need-add-to Inv-loop μ-loop
 add-to c = let p = c .before .before .before .before .before .before .before .before .before .before .loop .inv in omega arith
@@ -57,7 +66,14 @@ loop-less : tie.Need-loop-less Inv-loop μ-loop
 loop-less c = omega arith
 
 loop-again : tie.Need-loop-again Inv-loop μ-loop
-loop-again c = putting-on _ _ _ _ _ _ _ _ _ (c .before .before .before .before .before .before .before .before .before .before .loop .inv) (c .before .before .before .before .before .before .before .before .before .loop-test .taken) (omega (arith, c .before .before .before .before .before .before .before .before .shared-slice-known2 .given (c .before .before .before .before .before .before .before .before .before .before .loop .i))) _ _ (c .before .before .before .before .before .before .put-pair .ensures) (c .before .before .put-pair2 .ensures)
+loop-again c = putting-on _ _ _ _ _ _ _ _ _ (c .before .before .before .before .before .before .before .before .before .before .loop .inv)
+    (c .before .before .before .before .before .before .before .before .before .loop-test .taken)
+    (omega (
+      arith,
+      c .before .before .before .before .before .before .before .before .shared-slice-known2 .given
+          (c .before .before .before .before .before .before .before .before .before .before .loop .i),
+    )) _ _
+    (c .before .before .before .before .before .before .put-pair .ensures) (c .before .before .put-pair2 .ensures)
 
 same-length : tie.Need-same-length Inv-loop μ-loop
 same-length c = c .before .loop .inv .room

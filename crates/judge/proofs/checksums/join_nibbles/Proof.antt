@@ -69,7 +69,11 @@ add-result-3 : tie.Need-add-result-3
 add-result-3 c = search needs
 
 returns : tie.Need-returns
-returns c = (nibbles-of _ _ _ _ _ _ (c .before .before .before .before .before .before .nibble .ensures .0) (c .before .before .before .before .nibble2 .ensures .0) (c .before .before .nibble3 .ensures .0) (c .nibble4 .ensures .0), omega arith)
+returns c = (
+  nibbles-of _ _ _ _ _ _ (c .before .before .before .before .before .before .nibble .ensures .0) (c .before .before .before .before .nibble2 .ensures .0)
+      (c .before .before .nibble3 .ensures .0) (c .nibble4 .ensures .0),
+  omega arith,
+)
 
 pub join-nibbles-spec : {M : Type 1} → statement M
 join-nibbles-spec =

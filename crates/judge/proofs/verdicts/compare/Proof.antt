@@ -3,14 +3,14 @@ use Prim.Native.Nat.{_-_, _≤_}
 use lib.ListN.{length}
 use native.Mathlib.Omega.{arith}
 use borrow.Author.Needs.{needs}
-use Rattle.judge.specs.Verify.{differs}
+use Rattle.judge.specs.Verify.{entryDiffers}
 use Rattle.judge.specs.LawsCount.{Found, found-none, found-le, found-more, found-end}
 use Rattle.judge.specs.LawsVerify.{differs-of}
 use Rattle.judge.proofs.verdicts.compare.Statement.{statement}
 use Rattle.judge.proofs.verdicts.compare.Tie as tie
 
 abbrev Inv-loop : tie.InvT-loop
-Inv-loop words hidden wanted reading found₀ i₀ found i = (i ≤ length reading) × Found i (differs words wanted reading) (found .count) (found .first)
+Inv-loop words hidden wanted reading found₀ i₀ found i = (i ≤ length reading) × Found i (entryDiffers words wanted reading) (found .count) (found .first)
 
 abbrev μ-loop : tie.MeasureT-loop
 μ-loop words hidden wanted reading found₀ i₀ found i = length reading - i
@@ -43,7 +43,11 @@ loop-less : tie.Need-loop-less Inv-loop μ-loop
 loop-less c = omega arith
 
 loop-again : tie.Need-loop-again Inv-loop μ-loop
-loop-again c = (omega arith, found-more _ _ _ _ (c .before .before .before .before .before .loop .inv .1) _ (differs-of _ _ _ _ _ _ (c .before .before .before .before .before .before .before .before .pre .2) (c .before .differ .ensures)) _ _ (c .note .ensures))
+loop-again c = (
+  omega arith,
+  found-more _ _ _ _ (c .before .before .before .before .before .loop .inv .1) _
+      (differs-of _ _ _ _ _ _ (c .before .before .before .before .before .before .before .before .pre .2) (c .before .differ .ensures)) _ _ (c .note .ensures),
+)
 
 returns : tie.Need-returns Inv-loop μ-loop
 returns c = found-end _ _ _ _ _ (c .before .loop .inv .1) (omega arith)

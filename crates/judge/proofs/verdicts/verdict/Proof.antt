@@ -17,13 +17,15 @@ only-requires : tie.Need-only-requires
 only-requires c κs = search needs
 
 returns : tie.Need-returns
-returns c = c .only .ensures ∙ found-41 _ _ _ _ _ (c .before .before .before .before .compare .ensures) (c .before .before .if1 .taken) (sym (c .before .before .before .before .before .is-protected .ensures) ∙ c .before .if2 .taken)
+returns c = c .only .ensures ∙ found-41 _ _ _ _ _ (c .before .before .before .before .compare .ensures) (c .before .before .if1 .taken)
+    (sym (c .before .before .before .before .before .is-protected .ensures) ∙ c .before .if2 .taken)
 
 only-requires-2 : tie.Need-only-requires-2
 only-requires-2 c κs = search needs
 
 returns-2 : tie.Need-returns-2
-returns-2 c = c .only2 .ensures ∙ found-0 _ _ _ _ _ (c .before .before .before .before .compare .ensures) (c .before .before .if1 .taken) (sym (c .before .before .before .before .before .is-protected .ensures) ∙ c .before .if2 .left)
+returns-2 c = c .only2 .ensures ∙ found-0 _ _ _ _ _ (c .before .before .before .before .compare .ensures) (c .before .before .if1 .taken)
+    (sym (c .before .before .before .before .before .is-protected .ensures) ∙ c .before .if2 .left)
 
 address-requires : tie.Need-address-requires
 address-requires c κs = (c .before .before .before .before .before .before .pre .0, found-within _ _ _ _ (c .before .before .compare .ensures) (pos-of-ne-zero (c .if1 .left)))

@@ -123,7 +123,8 @@ module _ {M : Type 1} (𝓤 : URA M) (H : Heap 𝓤) (A : Atoms 𝓤) (W : Given
   goes-begin =
       qed W ((‵ (flft κ q) ⊛ ‵ ftrue) ∷ ‵ (owns (ShrSlice (named 0) κ u8 ∷ []) (s, tt) (v ∷ [], tt)) ∷ []) ∵
       move ! (1 ∷ []) $ fsplit ! $ use1 W (‵ Own ⊛ ‵ Own) (shr-slice-copy 𝓤 H A W (named 0) κ u8 .twice s (v ∷ [])) $ split ! $ move ! (0 ∷ 2 ∷ []) $ fjoin ! $ move ! (2 ∷ 0 ∷ []) $
-      use2 W (raw (Begin 𝓤 H A at-mem run .pre to-begin)) (qed W ((‵ (flft κ q) ⊛ ‵ ftrue) ∷ ‵ (owns (ShrSlice (named 0) κ u8 ∷ []) (s, tt) (v ∷ [], tt)) ∷ []) ∵ join ! $ frame ! $ done !) $ frame ! $ done !
+      use2 W (raw (Begin 𝓤 H A at-mem run .pre to-begin))
+      (qed W ((‵ (flft κ q) ⊛ ‵ ftrue) ∷ ‵ (owns (ShrSlice (named 0) κ u8 ∷ []) (s, tt) (v ∷ [], tt)) ∷ []) ∵ join ! $ frame ! $ done !) $ frame ! $ done !
 
   begin-said : (h : Lines) → ent 𝓤 (ensured 𝓤 H A begin.ended (begin.clauses 𝓤 H A at-mem run) (κ, tt) (s, tt) tt h) (fact 𝓤 (h ≡ atStart s))
   begin-said h = exE 𝓤 _ (λ ws. snd∗ 𝓤 (sem 𝓤 H A (lasts begin.ended (κ, tt) (s, tt) ws)) (fact 𝓤 (h ≡ atStart s)))
@@ -189,15 +190,18 @@ module _ {M : Type 1} (𝓤 : URA M) (H : Heap 𝓤) (A : Atoms 𝓤) (W : Given
       suffices ! _ (ends-at 𝓤 H A first-number.ended stayed (first-number.clauses 𝓤 H A at-mem run) W (((κ, tt), (q, tt), tt, (s, tt), (v ∷ [], tt)), tt) w n (tt, tt) (tt, tt)) $ says ! e $
       move ! (1 ∷ []) $ frame ! $ nothing ! $ move ! (2 ∷ 0 ∷ []) $ fjoin ! $ frame ! $ done !
 
-  module _ (C : Calls 𝓤 H) (Λ : Loops 𝓤 H) (fm : FmC 𝓤 H (W .laws) C) (known-begin : Triple 𝓤 (C #lines·begin) (Begin 𝓤 H A at-mem run)) (known-take : Triple 𝓤 (C #lines·take) (Take 𝓤 H A at-mem run)) (known-number : Triple 𝓤 (C #lines·number) (Number 𝓤 H A at-mem run)) where
+  module _ (C : Calls 𝓤 H) (Λ : Loops 𝓤 H) (fm : FmC 𝓤 H (W .laws) C) (known-begin : Triple 𝓤 (C #lines·begin) (Begin 𝓤 H A at-mem run))
+      (known-take : Triple 𝓤 (C #lines·take) (Take 𝓤 H A at-mem run)) (known-number : Triple 𝓤 (C #lines·number) (Number 𝓤 H A at-mem run)) where
     walk : Is (ShrSlice (named 0) κ u8) s (v ∷ []) → ent 𝓤 (onEntry 𝓤 H A first-number.signature (κ, tt) (q, tt) (s, tt) (v ∷ [], tt)) (WpFn 𝓤 H C Λ code.function (v ∷ []) Post)
     walk p =
         qed W (raw (onEntry 𝓤 H A first-number.signature (κ, tt) (q, tt) (s, tt) (v ∷ [], tt)) ∷ []) ∵ enter ! C Λ code.function (v ∷ []) _ $
-        alloc1 ! (λ l₀. alloc1 ! (λ l₁. alloc1 ! (λ l₂. alloc1 ! (λ l₃. alloc1 ! (λ l₄. alloc1 ! (λ l₅. alloc0 ! $ params1 ! $ pass1 ! (init ! 8 refl (shr-slice-lawful 𝓤 H A W (named 0) κ u8 .typed s (v ∷ []) p .0)) $ pass0 ! $
+        alloc1 ! (λ l₀. alloc1 ! (λ l₁. alloc1 ! (λ l₂. alloc1 !
+        (λ l₃. alloc1 ! (λ l₄. alloc1 ! (λ l₅. alloc0 ! $ params1 ! $ pass1 ! (init ! 8 refl (shr-slice-lawful 𝓤 H A W (named 0) κ u8 .typed s (v ∷ []) p .0)) $ pass0 ! $
         move ! (12 ∷ []) $ use1 W (raw (Begin 𝓤 H A at-mem run .pre to-begin) ⊛ ‵ Own) goes-begin $ split ! $
         -- [what `begin` asks; what the text owns; _5; …; _0; …]
         calls-at ! fm (Begin 𝓤 H A at-mem run) known-begin to-begin (and-then ! (load ! (from ! (stop !)) (look ! 10 refl)) (no-more !)) (λ u.
-        use1 W (later (some (λ (h : Lines). ((‵ (flft κ q) ⊛ ‵ ftrue) ⊛ ‵ (R₀ .own h (u ∷ []))) ⊛ raw (ensured 𝓤 H A begin.ended (begin.clauses 𝓤 H A at-mem run) (κ, tt) (s, tt) tt h)))) (id⊢ 𝓤 _) $ await ! tt $ pick ! (λ h.
+        use1 W (later (some (λ (h : Lines). ((‵ (flft κ q) ⊛ ‵ ftrue) ⊛ ‵ (R₀ .own h (u ∷ []))) ⊛ raw
+        (ensured 𝓤 H A begin.ended (begin.clauses 𝓤 H A at-mem run) (κ, tt) (s, tt) tt h)))) (id⊢ 𝓤 _) $ await ! tt $ pick ! (λ h.
         split ! $ move ! (1 ∷ []) $ use1 W (raw (fact 𝓤 (h ≡ atStart s))) (begin-said h) $ heard ! (h ≡ atStart s) (λ e. split ! $ move ! (1 ∷ []) $
         -- [what the reader owns; the token; what the text owns; _5; …; _0; …]
         peeks ! R₀ (Is R₀) (shows 𝓤 H A R₀) h (u ∷ []) (λ is.
@@ -206,41 +210,49 @@ module _ {M : Type 1} (𝓤 : URA M) (H : Heap 𝓤) (A : Atoms 𝓤) (W : Given
         assigns ! (addr ! (from ! (stop !))) (from ! (stop !)) (init ! 3 refl (tt, tt)) $
         -- the local is lent for a lifetime ν of the call
         move ! (9 ∷ 0 ∷ []) $ use2 W (‵ (mem R .lies h l₂ 0)) (lies-in l₂ h u) $ lft-new ! tt (λ ν. move ! (1 ∷ []) $
-        use1 W (later (some (λ (δ : GName). ‵ (MutRef (named 0) (ν ∷ κ) R .own (x h l₂ δ) (vptr l₂ 0 ∷ [])) ⊛ ‵ (flent (ν ∷ κ) (Body (mem R) l₂ 0 δ))))) (lends-ref 𝓤 H A W R (named 0) (ν ∷ κ) h l₂ 0) $ await ! tt $ pick ! (λ δ. split ! $
+        use1 W (later (some (λ (δ : GName). ‵ (MutRef (named 0) (ν ∷ κ) R .own (x h l₂ δ) (vptr l₂ 0 ∷ [])) ⊛ ‵ (flent (ν ∷ κ) (Body (mem R) l₂ 0 δ)))))
+        (lends-ref 𝓤 H A W R (named 0) (ν ∷ κ) h l₂ 0) $ await ! tt $ pick ! (λ δ. split ! $
         -- [the reference; the lender's part; ν's token; the token; what the text owns; _5; …; _3; …; the end of _2; _1; …; _0; …]
         move ! (2 ∷ 3 ∷ []) $ use2 W (‵ (flft (ν ∷ κ) (PosShare·left q)) ⊛ ‵ (flft κ (PosShare·right q)) ⊛ raw (Back ν)) (tokens ν) $ split ! $ move ! (1 ∷ []) $ split ! $
         move ! (3 ∷ 2 ∷ 0 ∷ []) $ use3 W (raw (Take 𝓤 H A at-mem run .pre (to-take h l₂ ν δ))) (goes-take h l₂ ν δ) $
         -- [what `take` asks; the way back; the lender's part; what the text owns; _5; …; _3; …; the end of _2; _1; …; _0; …]
         calls-at ! fm (Take 𝓤 H A at-mem run) known-take (to-take h l₂ ν δ) (and-then ! (load ! (from ! (stop !)) (look ! 4 refl)) (no-more !)) (λ u′.
-        use1 W (later (some (λ (r : NextLine). ((‵ (flft (ν ∷ κ) (PosShare·left q)) ⊛ ‵ (flft κ (PosShare·right q)) ⊛ ‵ ftrue) ⊛ ‵ (S.the-row .own r (u′ ∷ []))) ⊛ raw (ensured 𝓤 H A take.ended (take.clauses 𝓤 H A at-mem run) (ν ∷ κ, (κ, tt)) (x h l₂ δ, tt) tt r)))) (id⊢ 𝓤 _) $ await ! tt $ pick ! (λ r.
+        use1 W (later (some (λ (r : NextLine). ((‵ (flft (ν ∷ κ) (PosShare·left q)) ⊛ ‵ (flft κ (PosShare·right q)) ⊛ ‵ ftrue) ⊛ ‵ (S.the-row .own r (u′ ∷ []))) ⊛ raw
+        (ensured 𝓤 H A take.ended (take.clauses 𝓤 H A at-mem run) (ν ∷ κ, (κ, tt)) (x h l₂ δ, tt) tt r)))) (id⊢ 𝓤 _) $ await ! tt $ pick ! (λ r.
         -- what `take` ensures, at some last reader
         split ! $ move ! (1 ∷ []) $ use1 W (some (λ (zs : Lines × Unit {0}). ‵ (lasts take.ended (ν ∷ κ, (κ, tt)) (x h l₂ δ, tt) zs) ⊛ raw (fact 𝓤 (Takes h r (zs .0))))) (id⊢ 𝓤 _) $ pick ! (λ zs.
-        split ! $ move ! (1 ∷ []) $ heard ! (Takes h r (zs .0)) (λ t. fsplit ! $ move ! (2 ∷ []) $ split ! $ move ! (1 ∷ []) $ facts ! S.the-row (Is S.the-row) (shows 𝓤 H A S.the-row) r (u′ ∷ []) (λ is′.
+        split ! $ move ! (1 ∷ []) $ heard ! (Takes h r (zs .0))
+        (λ t. fsplit ! $ move ! (2 ∷ []) $ split ! $ move ! (1 ∷ []) $ facts ! S.the-row (Is S.the-row) (shows 𝓤 H A S.the-row) r (u′ ∷ []) (λ is′.
         -- [the tokens; the last reader; true; the way back; the lender's part; what the text owns; _5; …; _3; …; the end of _2; _1; …; _0; …]
         land ! (from ! (stop !)) (init ! 8 refl (LL.lawful S.the-type S′.the-laws 𝓤 H A W .typed r _ is′ .0)) $
         -- the lifetime is ended, and the local comes back
         move ! (0 ∷ 3 ∷ []) $ use2 W (‵ (flft (ν ∷ []) fullShare) ⊛ (‵ (flft κ q) ⊛ ‵ ftrue)) (tokens-back ν) $ split ! $ lft-end ! tt $
         use1 W (‵ (fdead (ν ∷ κ))) (W .lfts .dead-incl (ν ∷ κ) (ν ∷ []) (meet-⊑-left (ν ∷ []) κ)) $ move ! (0 ∷ 4 ∷ 2 ∷ []) $
         use3 W (later (‵ (mem R .lies (zs .0) l₂ 0))) (ref-back 𝓤 H A W R (ν ∷ κ) δ (zs .0) l₂ 0) $ await ! tt $
-        use1 W (‵ (fat fullShare (T′.mir erased) l₂ 0 (T′.lowered (zs .0))) ⊛ ‵ (R .own (zs .0) (T′.lowered (zs .0) ∷ []))) (lies-out l₂ (zs .0)) $ split ! $ move ! (1 ∷ []) $ peeks ! R (Is R) (shows 𝓤 H A R) (zs .0) (T′.lowered (zs .0) ∷ []) (λ is″.
+        use1 W (‵ (fat fullShare (T′.mir erased) l₂ 0 (T′.lowered (zs .0))) ⊛ ‵ (R .own (zs .0) (T′.lowered (zs .0) ∷ []))) (lies-out l₂ (zs .0)) $ split ! $ move !
+        (1 ∷ []) $ peeks ! R (Is R) (shows 𝓤 H A R) (zs .0) (T′.lowered (zs .0) ∷ []) (λ is″.
         -- [what the reader owns; _2; the token; true; what the text owns; _5; …; _3; …; the end of _2; _1; …; _0; …]
         assigns ! (of-opd ! (load ! (from ! (stop !)) (look ! 1 refl))) (from ! (stop !)) (store ! 9 refl (LL.lawful (T.the-type αᵉ) (T′.the-laws αᵉ) 𝓤 H A W .typed (zs .0) _ is″ .0)) $
         move ! (0 ∷ 2 ∷ []) $ use2 W (raw (Number 𝓤 H A at-mem run .pre (to-number (zs .0)))) (goes-number (zs .0)) $
         -- [what `number` asks; _2; true; what the text owns; _5; …; _3; …; the end of _2; _1; …; _0; …]
         calls-at ! fm (Number 𝓤 H A at-mem run) known-number (to-number (zs .0)) (and-then ! (load ! (from ! (stop !)) (look ! 8 refl)) (no-more !)) (λ w.
-        use1 W (later (some (λ (n : ℕ). ((‵ (flft κ q) ⊛ ‵ ftrue) ⊛ ‵ (u32 .own n (w ∷ []))) ⊛ raw (ensured 𝓤 H A number.ended (number.clauses 𝓤 H A at-mem run) (κ, tt) (zs .0, tt) tt n)))) (id⊢ 𝓤 _) $ await ! tt $ pick ! (λ n.
+        use1 W (later (some (λ (n : ℕ). ((‵ (flft κ q) ⊛ ‵ ftrue) ⊛ ‵ (u32 .own n (w ∷ []))) ⊛ raw
+        (ensured 𝓤 H A number.ended (number.clauses 𝓤 H A at-mem run) (κ, tt) (zs .0, tt) tt n)))) (id⊢ 𝓤 _) $ await ! tt $ pick ! (λ n.
         split ! $ move ! (1 ∷ []) $ use1 W (raw (fact 𝓤 (n ≡ zs .0 .line))) (number-said (zs .0) n) $ heard ! (n ≡ zs .0 .line) (λ m. split ! $ move ! (1 ∷ []) $
         -- [the number; the token; _2; true; what the text owns; _5; …; _3; …; the end of _2; _1; …; _0; …]
         peeks ! u32 (Is u32) (shows 𝓤 H A u32) n (w ∷ []) (λ n-is.
         land ! (from ! (stop !)) (init ! 14 refl (uint-lawful 𝓤 H A W w32 .typed n _ n-is .0)) $
         returns ! (look ! 14 refl) $ forget ! 2 refl $ forget ! 5 refl $ forget ! 7 refl $ forget ! 9 refl $ forget ! 12 refl $ forget ! 14 refl $
-        move ! (14 ∷ 15 ∷ []) $ free1 ! $ move ! (12 ∷ 13 ∷ []) $ free1 ! $ move ! (2 ∷ 11 ∷ []) $ free1 ! $ move ! (8 ∷ 9 ∷ []) $ free1 ! $ move ! (6 ∷ 7 ∷ []) $ free1 ! $ move ! (4 ∷ 5 ∷ []) $ free1 ! $ free0 ! $
+        move ! (14 ∷ 15 ∷ []) $ free1 ! $ move ! (12 ∷ 13 ∷ []) $ free1 ! $ move ! (2 ∷ 11 ∷ []) $ free1 ! $ move ! (8 ∷ 9 ∷ []) $ free1 ! $ move !
+        (6 ∷ 7 ∷ []) $ free1 ! $ move ! (4 ∷ 5 ∷ []) $ free1 ! $ free0 ! $
         keep ! (0 ∷ 1 ∷ 3 ∷ []) $ by ! (exits n w (first-is s h (zs .0) r n e t m))))))))))))))))))))))))
 
 module _ {M : Type 1} (𝓤 : URA M) (H : Heap 𝓤) (A : Atoms 𝓤) (W : Given 𝓤 H A) (mem : Memory → SProp 𝓤) (run : Routine → Fun 𝓤) where
-  first-number-walks : (C : Calls 𝓤 H) (Λ : Loops 𝓤 H) → FmC 𝓤 H (W .laws) C → Triple 𝓤 (C #lines·begin) (Begin 𝓤 H A mem run) → Triple 𝓤 (C #lines·take) (Take 𝓤 H A mem run) → Triple 𝓤 (C #lines·number) (Number 𝓤 H A mem run)
+  first-number-walks : (C : Calls 𝓤 H) (Λ : Loops 𝓤 H) → FmC 𝓤 H (W .laws) C → Triple 𝓤 (C #lines·begin) (Begin 𝓤 H A mem run)
+      → Triple 𝓤 (C #lines·take) (Take 𝓤 H A mem run) → Triple 𝓤 (C #lines·number) (Number 𝓤 H A mem run)
       → Walks 𝓤 H A first-number.ended stayed (WpFn 𝓤 H C Λ code.function) (first-number.clauses 𝓤 H A mem run)
-  first-number-walks C Λ fm known-begin known-take known-number = walked 𝓤 H A first-number.ended stayed (first-number.clauses 𝓤 H A mem run) (WpFn 𝓤 H C Λ code.function) (λ κs. (slice-vals, tt)) (λ κs. (shr-slice-tells (named 0) (κs .0) u8, tt))
+  first-number-walks C Λ fm known-begin known-take known-number = walked 𝓤 H A first-number.ended stayed (first-number.clauses 𝓤 H A mem run) (WpFn 𝓤 H C Λ code.function)
+      (λ κs. (slice-vals, tt)) (λ κs. (shr-slice-tells (named 0) (κs .0) u8, tt))
       (λ κs qs bounds a g are. via 𝓤 _ (fst∗ 𝓤 _ (emp 𝓤)) (walk 𝓤 H A W mem run (κs .0) (qs .0) (a .0) C Λ fm known-begin known-take known-number (are .0)))
 
 first-number-meets : {M : Type 1} (𝓤 : URA M) (H : Heap 𝓤) (A : Atoms 𝓤) → Given 𝓤 H A → (mem : Memory → SProp 𝓤) (run : Routine → Fun 𝓤) (𝓣 : Tables 𝓤 H)

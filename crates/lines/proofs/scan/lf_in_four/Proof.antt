@@ -38,7 +38,8 @@ is-lf-requires-4 : tie.Need-is-lf-requires-4
 is-lf-requires-4 c κs = search needs
 
 returns : tie.Need-returns
-returns c = four-none _ _ _ _ _ _ (c .before .before .before .before .before .before .is-lf .ensures) (c .before .before .before .before .is-lf2 .ensures) (c .before .before .is-lf3 .ensures) (c .is-lf4 .ensures)
+returns c = four-none _ _ _ _ _ _ (c .before .before .before .before .before .before .is-lf .ensures) (c .before .before .before .before .is-lf2 .ensures)
+    (c .before .before .is-lf3 .ensures) (c .is-lf4 .ensures)
 
 pub lf-in-four-spec : {M : Type 1} → statement M
 lf-in-four-spec =

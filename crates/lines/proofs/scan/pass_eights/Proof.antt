@@ -37,7 +37,8 @@ loop-less : tie.Need-loop-less Inv-loop μ-loop
 loop-less c = omega arith
 
 loop-again : tie.Need-loop-again Inv-loop μ-loop
-loop-again c = passing-more _ _ _ (c .before .before .before .before .loop .inv) (c .before .before .before .loop-test .taken) _ _ (c .before .before .lf-in-four .ensures) (c .before .lf-in-four2 .ensures) (c .if1 .left)
+loop-again c = passing-more _ _ _ (c .before .before .before .before .loop .inv) (c .before .before .before .loop-test .taken) _ _
+    (c .before .before .lf-in-four .ensures) (c .before .lf-in-four2 .ensures) (c .if1 .left)
 
 returns-2 : tie.Need-returns-2 Inv-loop μ-loop
 returns-2 c = c .before .loop .inv

@@ -29,13 +29,20 @@ slice-aggregate-put-plan : tie.Need-slice-aggregate-put-plan
 slice-aggregate-put-plan c = search needs
 
 put-plan-requires : tie.Need-put-plan-requires
-put-plan-requires c κs = ((plan-ready _ _ (fresh-few _ (c .before .before .before .before .before .before .before .before .before .before .before .pre .0) _) _ _ (c .before .before .before .fresh .ensures)) .within, (plan-ready _ _ (fresh-few _ (c .before .before .before .before .before .before .before .before .before .before .before .pre .0) _) _ _ (c .before .before .before .fresh .ensures)) .short)
+put-plan-requires c κs = (
+  (plan-ready _ _ (fresh-few _ (c .before .before .before .before .before .before .before .before .before .before .before .pre .0) _) _ _
+      (c .before .before .before .fresh .ensures)) .within,
+  (plan-ready _ _ (fresh-few _ (c .before .before .before .before .before .before .before .before .before .before .before .pre .0) _) _ _ (c .before .before .before .fresh .ensures)) .short,
+)
 
 same-length : tie.Need-same-length
 same-length c = search needs
 
 returns : tie.Need-returns
-returns c = prints-as _ _ _ _ _ ((plan-ready _ _ (fresh-few _ (c .before .before .before .before .before .before .before .before .before .before .before .before .before .before .pre .0) _) _ _ (c .before .before .before .before .before .before .fresh .ensures)) .text ∙ plan-fresh _ _ _ _ (c .before .before .before .before .before .before .before .before .before .before .if1 .taken)) (c .before .before .put-plan .ensures)
+returns c = prints-as _ _ _ _ _ ((plan-ready _ _ (fresh-few _
+    (c .before .before .before .before .before .before .before .before .before .before .before .before .before .before .pre .0) _) _ _
+    (c .before .before .before .before .before .before .fresh .ensures)) .text ∙ plan-fresh _ _ _ _
+    (c .before .before .before .before .before .before .before .before .before .before .if1 .taken)) (c .before .before .put-plan .ensures)
 
 slice-aggregate-update : tie.Need-slice-aggregate-update
 slice-aggregate-update c = search needs
@@ -47,13 +54,20 @@ slice-aggregate-put-plan-2 : tie.Need-slice-aggregate-put-plan-2
 slice-aggregate-put-plan-2 c = search needs
 
 put-plan-requires-2 : tie.Need-put-plan-requires-2
-put-plan-requires-2 c κs = ((plan-ready _ _ (update-few _ (c .before .before .before .before .before .before .before .before .before .pre .0) _ _) _ _ (c .before .before .before .update .ensures)) .within, (plan-ready _ _ (update-few _ (c .before .before .before .before .before .before .before .before .before .pre .0) _ _) _ _ (c .before .before .before .update .ensures)) .short)
+put-plan-requires-2 c κs = (
+  (plan-ready _ _ (update-few _ (c .before .before .before .before .before .before .before .before .before .pre .0) _ _) _ _
+      (c .before .before .before .update .ensures)) .within,
+  (plan-ready _ _ (update-few _ (c .before .before .before .before .before .before .before .before .before .pre .0) _ _) _ _ (c .before .before .before .update .ensures)) .short,
+)
 
 same-length-2 : tie.Need-same-length-2
 same-length-2 c = search needs
 
 returns-2 : tie.Need-returns-2
-returns-2 c = prints-as _ _ _ _ _ ((plan-ready _ _ (update-few _ (c .before .before .before .before .before .before .before .before .before .before .before .before .pre .0) _ _) _ _ (c .before .before .before .before .before .before .update .ensures)) .text ∙ plan-update _ _ _ _ (c .before .before .before .before .before .before .before .before .if1 .left)) (c .before .before .put-plan2 .ensures)
+returns-2 c = prints-as _ _ _ _ _ ((plan-ready _ _
+    (update-few _ (c .before .before .before .before .before .before .before .before .before .before .before .before .pre .0) _ _) _ _
+    (c .before .before .before .before .before .before .update .ensures)) .text ∙ plan-update _ _ _ _
+    (c .before .before .before .before .before .before .before .before .if1 .left)) (c .before .before .put-plan2 .ensures)
 
 pub put-planned-spec : {M : Type 1} → statement M
 put-planned-spec =

@@ -18,7 +18,8 @@ same-length : tie.Need-same-length
 same-length c = search needs
 
 returns : tie.Need-returns
-returns c = printed _ (readback-short _ _) (prints-as _ _ _ _ _ (readback-refused _ _ _ (c .before .before .before .before .before .before .open-record .ensures .0) (c .before .before .before .before .if1 .taken)) (c .before .before .refusal .ensures))
+returns c = printed _ (readback-short _ _) (prints-as _ _ _ _ _
+    (readback-refused _ _ _ (c .before .before .before .before .before .before .open-record .ensures .0) (c .before .before .before .before .if1 .taken)) (c .before .before .refusal .ensures))
 
 slice-aggregate-read-back : tie.Need-slice-aggregate-read-back
 slice-aggregate-read-back c = search needs
@@ -30,13 +31,32 @@ slice-aggregate-put-plan : tie.Need-slice-aggregate-put-plan
 slice-aggregate-put-plan c = search needs
 
 put-plan-requires : tie.Need-put-plan-requires
-put-plan-requires c κs = ((plan-ready _ _ (read-back-few _ (opened-rules _ _ _ (c .before .before .before .before .before .before .before .before .open-record .ensures .0) (c .before .before .before .before .before .before .if1 .left) _ (c .before .before .before .before .before .before .before .before .open-record .ensures .1))) _ _ (c .before .before .before .read-back .ensures)) .within, (plan-ready _ _ (read-back-few _ (opened-rules _ _ _ (c .before .before .before .before .before .before .before .before .open-record .ensures .0) (c .before .before .before .before .before .before .if1 .left) _ (c .before .before .before .before .before .before .before .before .open-record .ensures .1))) _ _ (c .before .before .before .read-back .ensures)) .short)
+put-plan-requires c κs = (
+  (plan-ready _ _ (read-back-few _
+      (opened-rules _ _ _ (c .before .before .before .before .before .before .before .before .open-record .ensures .0)
+      (c .before .before .before .before .before .before .if1 .left) _ (c .before .before .before .before .before .before .before .before .open-record .ensures .1))) _ _
+      (c .before .before .before .read-back .ensures)) .within,
+  (plan-ready _ _ (read-back-few _ (opened-rules _ _ _ (c .before .before .before .before .before .before .before .before .open-record .ensures .0)
+      (c .before .before .before .before .before .before .if1 .left) _ (c .before .before .before .before .before .before .before .before .open-record .ensures .1))) _ _
+      (c .before .before .before .read-back .ensures)) .short,
+)
 
 same-length-2 : tie.Need-same-length-2
 same-length-2 c = search needs
 
 returns-2 : tie.Need-returns-2
-returns-2 c = printed _ (readback-short _ _) (prints-as _ _ _ _ _ ((plan-ready _ _ (read-back-few _ (opened-rules _ _ _ (c .before .before .before .before .before .before .before .before .before .before .before .open-record .ensures .0) (c .before .before .before .before .before .before .before .before .before .if1 .left) _ (c .before .before .before .before .before .before .before .before .before .before .before .open-record .ensures .1))) _ _ (c .before .before .before .before .before .before .read-back .ensures)) .text ∙ readback-found _ _ (sym (c .before .before .before .before .before .before .before .before .before .before .before .open-record .ensures .0) ∙ c .before .before .before .before .before .before .before .before .before .if1 .left) _ (c .before .before .before .before .before .before .before .before .before .before .before .open-record .ensures .1) (opened-rules _ _ _ (c .before .before .before .before .before .before .before .before .before .before .before .open-record .ensures .0) (c .before .before .before .before .before .before .before .before .before .if1 .left) _ (c .before .before .before .before .before .before .before .before .before .before .before .open-record .ensures .1))) (c .before .before .put-plan .ensures))
+returns-2 c = printed _ (readback-short _ _) (prints-as _ _ _ _ _
+    ((plan-ready _ _ (read-back-few _ (opened-rules _ _ _
+    (c .before .before .before .before .before .before .before .before .before .before .before .open-record .ensures .0)
+    (c .before .before .before .before .before .before .before .before .before .if1 .left) _
+    (c .before .before .before .before .before .before .before .before .before .before .before .open-record .ensures .1))) _ _
+    (c .before .before .before .before .before .before .read-back .ensures)) .text ∙ readback-found _ _
+    (sym (c .before .before .before .before .before .before .before .before .before .before .before .open-record .ensures .0)
+    ∙ c .before .before .before .before .before .before .before .before .before .if1 .left) _
+    (c .before .before .before .before .before .before .before .before .before .before .before .open-record .ensures .1)
+    (opened-rules _ _ _ (c .before .before .before .before .before .before .before .before .before .before .before .open-record .ensures .0)
+    (c .before .before .before .before .before .before .before .before .before .if1 .left) _
+    (c .before .before .before .before .before .before .before .before .before .before .before .open-record .ensures .1))) (c .before .before .put-plan .ensures))
 
 pub readback-spec : {M : Type 1} → statement M
 readback-spec =

@@ -54,7 +54,12 @@ loop-less : tie.Need-loop-less Inv-loop μ-loop
 loop-less c = omega arith
 
 loop-again : tie.Need-loop-again Inv-loop μ-loop
-loop-again c = (omega arith, omega arith, c .before .before .before .before .before .loop .inv .2 ∙ left-on _ _ _ _ (c .before .before .before .before .loop-test .taken) (c .before .before .if1 .left) (c .before .if2 .left))
+loop-again c = (
+  omega arith,
+  omega arith,
+  c .before .before .before .before .before .loop .inv .2 ∙ left-on _ _ _ _ (c .before .before .before .before .loop-test .taken)
+      (c .before .before .if1 .left) (c .before .if2 .left),
+)
 
 returns-4 : tie.Need-returns-4 Inv-loop μ-loop
 returns-4 c = sym (c .before .loop .inv .2 ∙ left-end _ _ _ _ (c .loop-test .left) (c .before .loop .inv .1))

@@ -9,17 +9,27 @@ put-walk-requires : tie.Need-put-walk-requires
 put-walk-requires c κs = room-first _ _ _ _ _ (word-opens _ _ _) (c .before .before .pre .1)
 
 put-order-requires : tie.Need-put-order-requires
-put-order-requires c κs = (c .before .before .before .before .before .before .pre .0, room-part _ _ _ _ _ _ _ (left-then _ _ _ _ _ _ _ _ _ (left-same _ _ _ _ _ _ _ (word-opens _ _ _) (left-all _ _ _)) (c .before .before .before .put-walk .ensures)) (c .before .before .before .before .before .before .pre .1))
+put-order-requires c κs = (
+  c .before .before .before .before .before .before .pre .0,
+  room-part _ _ _ _ _ _ _
+      (left-then _ _ _ _ _ _ _ _ _ (left-same _ _ _ _ _ _ _ (word-opens _ _ _) (left-all _ _ _)) (c .before .before .before .put-walk .ensures))
+      (c .before .before .before .before .before .before .pre .1),
+)
 
 put-order-requires-2 : tie.Need-put-order-requires-2
-put-order-requires-2 c κs = let a = left-then _ _ _ _ _ _ _ _ _ (left-same _ _ _ _ _ _ _ (word-opens _ _ _) (left-all _ _ _)) (c .before .before .before .before .before .before .before .put-walk .ensures) in
-    (tt, room-rest _ _ _ _ _ _ (left-then _ _ _ _ _ _ _ _ _ a (c .before .before .before .put-order .ensures)) (c .before .before .before .before .before .before .before .before .before .before .pre .1))
+put-order-requires-2 c κs = let a = left-then _ _ _ _ _ _ _ _ _ (left-same _ _ _ _ _ _ _ (word-opens _ _ _) (left-all _ _ _))
+    (c .before .before .before .before .before .before .before .put-walk .ensures) in (
+      tt,
+      room-rest _ _ _ _ _ _ (left-then _ _ _ _ _ _ _ _ _ a (c .before .before .before .put-order .ensures))
+          (c .before .before .before .before .before .before .before .before .before .before .pre .1),
+    )
 
 same-length : tie.Need-same-length
 same-length c = search needs
 
 returns : tie.Need-returns
-returns c = let a = left-then _ _ _ _ _ _ _ _ _ (left-same _ _ _ _ _ _ _ (word-opens _ _ _) (left-all _ _ _)) (c .before .before .before .before .before .before .before .before .before .before .put-walk .ensures) in
+returns c = let a = left-then _ _ _ _ _ _ _ _ _ (left-same _ _ _ _ _ _ _ (word-opens _ _ _) (left-all _ _ _))
+    (c .before .before .before .before .before .before .before .before .before .before .put-walk .ensures) in
     left-done _ _ _ _ _ _ _ _ (left-then _ _ _ _ _ _ _ _ _ a (c .before .before .before .before .before .before .put-order .ensures)) (c .before .before .put-order2 .ensures)
 
 pub put-word-spec : {M : Type 1} → statement M

@@ -3,20 +3,22 @@ use Prim.Native.Nat.{_+_, _-_, _≤_}
 use native.Mathlib.Omega.{arith}
 use mathlib.Core.Path.{_≡_, refl, sym, _∙_}
 use lib.ListN.{length}
-use Rattle.plan.specs.Wanted.{wanted}
+use Rattle.target.specs.Chip.{chipOf}
+use Rattle.plan.specs.Wanted.{known, wanted, configWrites}
 use Rattle.plan.specs.Steps.{writesFrom}
 use Rattle.plan.specs.LawsPlanSteps.{writes-yes, writes-no, writes-none, word-same}
-use Rattle.plan.specs.LawsPlanWanted.{chosen}
 use Rattle.plan.specs.LawsPlanWrote.{Left, left-all, left-same, left-then, left-none, room-part, room-same, wrote-same}
 use borrow.Author.Needs.{needs}
 use Rattle.plan.proofs.config.put_writes.Statement.{statement}
 use Rattle.plan.proofs.config.put_writes.Tie as tie
 
 abbrev Inv-loop : tie.InvT-loop
-Inv-loop out₀ steps image reading words all done₀ at₀ k₀ out done at k = (k ≤ 9) × (length out ≡ length out₀) × Left (writesFrom (λ j. wanted image reading (words + j)) (chosen all image reading words) 9 0 0) steps out₀ (writesFrom (λ j. wanted image reading (words + j)) (chosen all image reading words) (9 - k) k at) done out
+Inv-loop out₀ steps d image reading allIds done₀ at₀ k₀ out done at k = (k ≤ 9) × (length out ≡ length out₀) × Left
+    (writesFrom (λ j. wanted d image reading (d .words + j)) (configWrites (chipOf d) (wanted d image reading) (known reading) allIds) 9 0 0) steps out₀
+    (writesFrom (λ j. wanted d image reading (d .words + j)) (configWrites (chipOf d) (wanted d image reading) (known reading) allIds) (9 - k) k at) done out
 
 abbrev μ-loop : tie.MeasureT-loop
-μ-loop out₀ steps image reading words all done₀ at₀ k₀ out done at k = 9 - k
+μ-loop out₀ steps d image reading allIds done₀ at₀ k₀ out done at k = 9 - k
 
 loop-holds : tie.Need-loop-holds Inv-loop μ-loop
 loop-holds c = (search needs, refl, left-all _ _ _)
@@ -24,8 +26,11 @@ loop-holds c = (search needs, refl, left-all _ _ _)
 add-k : tie.Need-add-k Inv-loop μ-loop
 add-k c = omega arith
 
-is-chosen-requires : tie.Need-is-chosen-requires Inv-loop μ-loop
-is-chosen-requires c κs = (omega arith, c .before .before .before .before .before .pre .1 .0 .1)
+is-written-requires : tie.Need-is-written-requires Inv-loop μ-loop
+is-written-requires c κs = c .before .before .before .before .before .pre .1 .0
+
+cast-wanted-word : tie.Need-cast-wanted-word Inv-loop μ-loop
+cast-wanted-word c = search needs
 
 add-wanted-word : tie.Need-add-wanted-word Inv-loop μ-loop
 add-wanted-word c = omega arith
@@ -34,19 +39,41 @@ wanted-word-requires : tie.Need-wanted-word-requires Inv-loop μ-loop
 wanted-word-requires c κs = omega arith
 
 put-word-requires : tie.Need-put-word-requires Inv-loop μ-loop
-put-word-requires c κs = (rw (c .wanted-word .ensures) (c .before .before .before .before .before .before .before .before .before .pre .0 .fits _), room-same _ _ _ _ (word-same _ _ _ _ (sym (c .wanted-word .ensures))) (room-part _ _ _ _ _ _ _ (left-same _ _ _ _ _ _ _ (writes-yes _ _ _ _ _ (c .before .before .before .before .loop-test .taken) (sym (c .before .before .before .is-chosen .ensures) ∙ c .before .before .if1 .taken)) (c .before .before .before .before .before .loop .inv .2)) (c .before .before .before .before .before .before .before .before .before .pre .1 .1)))
+put-word-requires c κs = (
+  rw (c .before .wanted-word .ensures)
+      (c .before .before .before .before .before .before .before .before .before .before .pre .0 .fits _),
+  room-same _ _ _ _
+      (word-same _ _ _ _ (sym (c .before .wanted-word .ensures)))
+      (room-part _ _ _ _ _ _ _ (left-same _ _ _ _ _ _ _
+      (writes-yes _ _ _ _ _ (c .before .before .before .before .before .loop-test .taken)
+      (sym (c .before .before .before .before .is-written .ensures) ∙ c .before .before .before .if1 .taken))
+      (c .before .before .before .before .before .before .loop .inv .2)) (c .before .before .before .before .before .before .before .before .before .before .pre .1 .1)),
+)
 
 loop-less : tie.Need-loop-less Inv-loop μ-loop
 loop-less c = omega arith
 
 loop-again : tie.Need-loop-again Inv-loop μ-loop
-loop-again c = (omega arith, search needs, left-then _ _ _ _ _ _ _ _ _ (left-same _ _ _ _ _ _ _ (writes-yes _ _ _ _ _ (c .before .before .before .before .before .before .before .loop-test .taken) (sym (c .before .before .before .before .before .before .is-chosen .ensures) ∙ c .before .before .before .before .before .if1 .taken)) (c .before .before .before .before .before .before .before .before .loop .inv .2)) (wrote-same _ _ _ _ _ _ (word-same _ _ _ _ (c .before .before .before .wanted-word .ensures)) (c .before .before .put-word .ensures)))
+loop-again c = (
+  omega arith,
+  search needs,
+  left-then _ _ _ _ _ _ _ _ _
+      (left-same _ _ _ _ _ _ _ (writes-yes _ _ _ _ _ (c .before .before .before .before .before .before .before .before .loop-test .taken)
+      (sym (c .before .before .before .before .before .before .before .is-written .ensures) ∙ c .before .before .before .before .before .before .if1 .taken))
+      (c .before .before .before .before .before .before .before .before .before .loop .inv .2))
+      (wrote-same _ _ _ _ _ _ (word-same _ _ _ _ (c .before .before .before .before .wanted-word .ensures)) (c .before .before .put-word .ensures)),
+)
 
 loop-less-2 : tie.Need-loop-less-2 Inv-loop μ-loop
 loop-less-2 c = omega arith
 
 loop-again-2 : tie.Need-loop-again-2 Inv-loop μ-loop
-loop-again-2 c = (omega arith, c .before .before .before .loop .inv .1, left-same _ _ _ _ _ _ _ (writes-no _ _ _ _ _ (c .before .before .loop-test .taken) (sym (c .before .is-chosen .ensures) ∙ c .if1 .left)) (c .before .before .before .loop .inv .2))
+loop-again-2 c = (
+  omega arith,
+  c .before .before .before .loop .inv .1,
+  left-same _ _ _ _ _ _ _
+      (writes-no _ _ _ _ _ (c .before .before .loop-test .taken) (sym (c .before .is-written .ensures) ∙ c .if1 .left)) (c .before .before .before .loop .inv .2),
+)
 
 same-length : tie.Need-same-length Inv-loop μ-loop
 same-length c = c .before .loop .inv .1
@@ -62,7 +89,8 @@ put-writes-spec =
     μ-loop
     loop-holds
     add-k
-    is-chosen-requires
+    is-written-requires
+    cast-wanted-word
     add-wanted-word
     wanted-word-requires
     put-word-requires

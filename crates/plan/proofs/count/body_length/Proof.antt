@@ -1,23 +1,13 @@
 -- The two parts summed.
 use mathlib.Core.Path.{sym}
 use Rattle.plan.specs.LawsPlanSteps.{body-opens}
-use Rattle.plan.specs.LawsPlanBounds.{some-row, few-words, reach-rows}
 use Rattle.plan.specs.LawsPlanCount.{counts-same, counts-then}
 use borrow.Author.Needs.{needs}
 use Rattle.plan.proofs.count.body_length.Statement.{statement}
 use Rattle.plan.proofs.count.body_length.Tie as tie
 
-cast-words : tie.Need-cast-words
-cast-words c = search needs
-
-cast-row : tie.Need-cast-row
-cast-row c = search needs
-
-div-rows-length : tie.Need-div-rows-length
-div-rows-length c = some-row _ (c .before .before .before .before .pre .0)
-
 rows-length-requires : tie.Need-rows-length-requires
-rows-length-requires c κs = (some-row _ (c .before .before .before .before .pre .0), few-words _ (c .before .before .before .before .pre .0), reach-rows _ (c .before .before .before .before .pre .0) _ (c .before .before .before .before .pre .1))
+rows-length-requires c κs = search needs
 
 config-length-requires : tie.Need-config-length-requires
 config-length-requires c κs = search needs
@@ -26,16 +16,7 @@ add-result : tie.Need-add-result
 add-result c = search needs
 
 returns : tie.Need-returns
-returns c = counts-same _ _ _ _ (sym (body-opens _ _ _ _ _)) (counts-then _ _ _ _ _ _ (c .before .rows-length .ensures) (c .config-length .ensures))
+returns c = counts-same _ _ _ _ (sym (body-opens _ _ _ _ _ _)) (counts-then _ _ _ _ _ _ (c .before .rows-length .ensures) (c .config-length .ensures))
 
 pub body-length-spec : {M : Type 1} → statement M
-body-length-spec =
-    tie.close
-    (tie.spec
-    cast-words
-    cast-row
-    div-rows-length
-    rows-length-requires
-    config-length-requires
-    add-result
-    returns)
+body-length-spec = tie.close (tie.spec rows-length-requires config-length-requires add-result returns)

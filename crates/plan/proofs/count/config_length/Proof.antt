@@ -5,11 +5,11 @@ use borrow.Author.Needs.{needs}
 use Rattle.plan.proofs.count.config_length.Statement.{statement}
 use Rattle.plan.proofs.count.config_length.Tie as tie
 
-some-chosen-requires : tie.Need-some-chosen-requires
-some-chosen-requires c κs = search needs
+some-written-requires : tie.Need-some-written-requires
+some-written-requires c κs = search needs
 
 returns : tie.Need-returns
-returns c = no-config-counted _ _ _ (sym (c .before .some-chosen .ensures) ∙ c .if1 .left)
+returns c = no-config-counted _ _ _ _ _ (sym (c .before .some-written .ensures) ∙ c .if1 .left)
 
 erase-length-requires : tie.Need-erase-length-requires
 erase-length-requires c κs = search needs
@@ -24,13 +24,13 @@ add-result : tie.Need-add-result
 add-result c = search needs
 
 returns-2 : tie.Need-returns-2
-returns-2 c = config-counted _ _ _ _ _ (sym (c .before .before .before .some-chosen .ensures) ∙ c .before .before .if1 .taken) (c .before .erase-length .ensures) (c .writes-length .ensures)
+returns-2 c = config-counted _ _ _ _ _ _ _ (sym (c .before .before .before .some-written .ensures) ∙ c .before .before .if1 .taken) (c .before .erase-length .ensures) (c .writes-length .ensures)
 
 pub config-length-spec : {M : Type 1} → statement M
 config-length-spec =
     tie.close
     (tie.spec
-    some-chosen-requires
+    some-written-requires
     returns
     erase-length-requires
     add-first

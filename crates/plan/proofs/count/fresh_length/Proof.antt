@@ -14,7 +14,7 @@ add-result : tie.Need-add-result
 add-result c = search needs
 
 returns : tie.Need-returns
-returns c = fresh-counted _ _ _ (c .body-length .ensures)
+returns c = search (fresh-counted, needs)
 
 pub fresh-length-spec : {M : Type 1} → statement M
 fresh-length-spec =

@@ -14,7 +14,7 @@ add-result : tie.Need-add-result
 add-result c = search needs
 
 returns : tie.Need-returns
-returns c = read-back-counted _ (c .before .pre)
+returns c = search (read-back-counted, needs)
 
 pub read-back-length-spec : {M : Type 1} → statement M
 read-back-length-spec = tie.close (tie.spec cast-result mul-result add-result returns)

@@ -4,11 +4,8 @@ use borrow.Author.Needs.{needs}
 use Rattle.plan.proofs.count.update_length.Statement.{statement}
 use Rattle.plan.proofs.count.update_length.Tie as tie
 
-cast-some-differ : tie.Need-cast-some-differ
-cast-some-differ c = search needs
-
-some-differ-requires : tie.Need-some-differ-requires
-some-differ-requires c κs = search needs
+id-differs-requires : tie.Need-id-differs-requires
+id-differs-requires c κs = search needs
 
 body-length-requires : tie.Need-body-length-requires
 body-length-requires c κs = search needs
@@ -17,9 +14,7 @@ add-result : tie.Need-add-result
 add-result c = search needs
 
 returns : tie.Need-returns
-returns c = update-counted _ _ _ _ _ (c .before .some-differ .ensures) (c .body-length .ensures)
+returns c = search (update-counted, needs)
 
 pub update-length-spec : {M : Type 1} → statement M
-update-length-spec =
-    tie.close
-    (tie.spec cast-some-differ some-differ-requires body-length-requires add-result returns)
+update-length-spec = tie.close (tie.spec id-differs-requires body-length-requires add-result returns)

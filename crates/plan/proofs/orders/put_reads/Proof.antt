@@ -20,10 +20,19 @@ loop-holds : tie.Need-loop-holds Inv-loop μ-loop
 loop-holds c = (c .before .pre .0, refl, left-all _ _ _)
 
 put-order-requires : tie.Need-put-order-requires Inv-loop μ-loop
-put-order-requires c κs = (tt, room-part _ _ _ _ _ _ _ (left-same _ _ _ _ _ _ _ (reads-more _ (c .before .loop-test .taken)) (c .before .before .loop .inv .2)) (c .before .before .before .before .pre .1))
+put-order-requires c κs = (
+  tt,
+  room-part _ _ _ _ _ _ _ (left-same _ _ _ _ _ _ _ (reads-more _ (c .before .loop-test .taken)) (c .before .before .loop .inv .2))
+      (c .before .before .before .before .pre .1),
+)
 
 put-order-requires-2 : tie.Need-put-order-requires-2 Inv-loop μ-loop
-put-order-requires-2 c κs = (tt, room-part _ _ _ _ _ _ _ (left-then _ _ _ _ _ _ _ _ _ (left-same _ _ _ _ _ _ _ (reads-more _ (c .before .before .before .before .before .loop-test .taken)) (c .before .before .before .before .before .before .loop .inv .2)) (c .before .before .before .put-order .ensures)) (c .before .before .before .before .before .before .before .before .pre .1))
+put-order-requires-2 c κs = (
+  tt,
+  room-part _ _ _ _ _ _ _
+      (left-then _ _ _ _ _ _ _ _ _ (left-same _ _ _ _ _ _ _ (reads-more _ (c .before .before .before .before .before .loop-test .taken))
+      (c .before .before .before .before .before .before .loop .inv .2)) (c .before .before .before .put-order .ensures)) (c .before .before .before .before .before .before .before .before .pre .1),
+)
 
 sub-left : tie.Need-sub-left Inv-loop μ-loop
 sub-left c = omega arith
@@ -32,7 +41,14 @@ loop-less : tie.Need-loop-less Inv-loop μ-loop
 loop-less c = omega arith
 
 loop-again : tie.Need-loop-again Inv-loop μ-loop
-loop-again c = (omega arith, search needs, left-then _ _ _ _ _ _ _ _ _ (left-then _ _ _ _ _ _ _ _ _ (left-same _ _ _ _ _ _ _ (reads-more _ (c .before .before .before .before .before .before .before .before .loop-test .taken)) (c .before .before .before .before .before .before .before .before .before .loop .inv .2)) (c .before .before .before .before .before .before .put-order .ensures)) (c .before .before .put-order2 .ensures))
+loop-again c = (
+  omega arith,
+  search needs,
+  left-then _ _ _ _ _ _ _ _ _
+      (left-then _ _ _ _ _ _ _ _ _ (left-same _ _ _ _ _ _ _ (reads-more _ (c .before .before .before .before .before .before .before .before .loop-test .taken))
+      (c .before .before .before .before .before .before .before .before .before .loop .inv .2)) (c .before .before .before .before .before .before .put-order .ensures))
+      (c .before .before .put-order2 .ensures),
+)
 
 put-order-requires-3 : tie.Need-put-order-requires-3 Inv-loop μ-loop
 put-order-requires-3 c κs = (tt, room-rest _ _ _ _ _ _ (left-same _ _ _ _ _ _ _ (reads-last _ (omega arith)) (c .before .before .loop .inv .2)) (c .before .before .before .before .pre .1))

@@ -20,7 +20,11 @@ loop-holds : tie.Need-loop-holds Inv-loop μ-loop
 loop-holds c = (refl, left-all _ _ _)
 
 put-order-requires : tie.Need-put-order-requires Inv-loop μ-loop
-put-order-requires c κs = (tt, room-part _ _ _ _ _ _ _ (left-same _ _ _ _ _ _ _ (walk-more _ _ (c .before .loop-test .taken)) (c .before .before .loop .inv .1)) (c .before .before .before .before .pre))
+put-order-requires c κs = (
+  tt,
+  room-part _ _ _ _ _ _ _ (left-same _ _ _ _ _ _ _ (walk-more _ _ (c .before .loop-test .taken)) (c .before .before .loop .inv .1))
+      (c .before .before .before .before .pre),
+)
 
 add-at : tie.Need-add-at Inv-loop μ-loop
 add-at c = omega arith
@@ -29,7 +33,11 @@ loop-less : tie.Need-loop-less Inv-loop μ-loop
 loop-less c = omega arith
 
 loop-again : tie.Need-loop-again Inv-loop μ-loop
-loop-again c = (search needs, left-then _ _ _ _ _ _ _ _ _ (left-same _ _ _ _ _ _ _ (walk-more _ _ (c .before .before .before .before .loop-test .taken)) (c .before .before .before .before .before .loop .inv .1)) (c .before .before .put-order .ensures))
+loop-again c = (
+  search needs,
+  left-then _ _ _ _ _ _ _ _ _
+      (left-same _ _ _ _ _ _ _ (walk-more _ _ (c .before .before .before .before .loop-test .taken)) (c .before .before .before .before .before .loop .inv .1)) (c .before .before .put-order .ensures),
+)
 
 same-length : tie.Need-same-length Inv-loop μ-loop
 same-length c = c .before .loop .inv .0

@@ -12,7 +12,7 @@ fresh-refusal-requires : tie.Need-fresh-refusal-requires
 fresh-refusal-requires c κs = search needs
 
 returns : tie.Need-returns
-returns c = plans-refused _ _ _ _ (c .before .fresh-refusal .ensures) (c .if1 .taken)
+returns c = search (plans-refused, needs)
 
 fresh-length-requires : tie.Need-fresh-length-requires
 fresh-length-requires c κs = let s = fresh-sound _ _ _ _ (c .before .fresh-refusal .ensures) (c .if1 .left) in (rules _ (s .0), image-reaches _ _ (s .1))
@@ -24,13 +24,16 @@ returns-2 : tie.Need-returns-2
 returns-2 c = plans-short _ _ _ _ _ (c .before .before .before .fresh-refusal .ensures) (c .before .before .if1 .left) (c .before .fresh-length .ensures .is) (c .if2 .taken)
 
 put-fresh-requires : tie.Need-put-fresh-requires
-put-fresh-requires c κs = let s = fresh-sound _ _ _ _ (c .before .before .before .before .fresh-refusal .ensures) (c .before .before .before .if1 .left) in (rules _ (s .0), (image-reaches _ _ (s .1), (fresh-source _ _ (s .1), room-whole _ _ _ (c .before .before .fresh-length .ensures .is) (omega arith) (c .before .if2 .left))))
+put-fresh-requires c κs = let s = fresh-sound _ _ _ _ (c .before .before .before .before .fresh-refusal .ensures) (c .before .before .before .if1 .left) in
+    (rules _ (s .0), (image-reaches _ _ (s .1), (fresh-source _ _ (s .1), room-whole _ _ _ (c .before .before .fresh-length .ensures .is) (omega arith) (c .before .if2 .left))))
 
 same-length : tie.Need-same-length
 same-length c = search needs
 
 returns-3 : tie.Need-returns-3
-returns-3 c = plans-done _ _ _ _ _ _ _ (c .before .before .before .before .before .before .before .fresh-refusal .ensures) (c .before .before .before .before .before .before .if1 .left) (c .before .before .before .before .before .fresh-length .ensures .is) (c .before .before .before .before .if2 .left) (c .before .before .put-fresh .ensures)
+returns-3 c = plans-done _ _ _ _ _ _ _ (c .before .before .before .before .before .before .before .fresh-refusal .ensures)
+    (c .before .before .before .before .before .before .if1 .left) (c .before .before .before .before .before .fresh-length .ensures .is)
+    (c .before .before .before .before .if2 .left) (c .before .before .put-fresh .ensures)
 
 pub fresh-spec : {M : Type 1} → statement M
 fresh-spec =

@@ -23,13 +23,19 @@ returns-2 : tie.Need-returns-2
 returns-2 c = plans-short _ _ _ _ _ (read-back-0 _ _ (c .before .before .before .judge .ensures) (c .before .before .if1 .left)) refl (c .before .read-back-length .ensures .is) (c .if2 .taken)
 
 put-read-back-requires : tie.Need-put-read-back-requires
-put-read-back-requires c κs = (rules-judged _ _ (c .before .before .before .before .judge .ensures) (c .before .before .before .if1 .left), room-whole _ _ _ (c .before .before .read-back-length .ensures .is) (omega arith) (c .before .if2 .left))
+put-read-back-requires c κs = (
+  rules-judged _ _ (c .before .before .before .before .judge .ensures) (c .before .before .before .if1 .left),
+  room-whole _ _ _
+      (c .before .before .read-back-length .ensures .is) (omega arith) (c .before .if2 .left),
+)
 
 same-length : tie.Need-same-length
 same-length c = search needs
 
 returns-3 : tie.Need-returns-3
-returns-3 c = plans-done _ _ _ _ _ _ _ (read-back-0 _ _ (c .before .before .before .before .before .before .before .judge .ensures) (c .before .before .before .before .before .before .if1 .left)) refl (c .before .before .before .before .before .read-back-length .ensures .is) (c .before .before .before .before .if2 .left) (c .before .before .put-read-back .ensures)
+returns-3 c = plans-done _ _ _ _ _ _ _ (read-back-0 _ _ (c .before .before .before .before .before .before .before .judge .ensures)
+    (c .before .before .before .before .before .before .if1 .left)) refl (c .before .before .before .before .before .read-back-length .ensures .is)
+    (c .before .before .before .before .if2 .left) (c .before .before .put-read-back .ensures)
 
 pub read-back-spec : {M : Type 1} → statement M
 read-back-spec =

@@ -12,7 +12,7 @@ update-refusal-requires : tie.Need-update-refusal-requires
 update-refusal-requires c κs = search needs
 
 returns : tie.Need-returns
-returns c = plans-refused _ _ _ _ (c .before .update-refusal .ensures) (c .if1 .taken)
+returns c = search (plans-refused, needs)
 
 update-length-requires : tie.Need-update-length-requires
 update-length-requires c κs = let s = update-sound _ _ _ _ (c .before .update-refusal .ensures) (c .if1 .left) in (rules _ (s .device), image-reaches _ _ (s .image-is))
@@ -24,13 +24,21 @@ returns-2 : tie.Need-returns-2
 returns-2 c = plans-short _ _ _ _ _ (c .before .before .before .update-refusal .ensures) (c .before .before .if1 .left) (c .before .update-length .ensures .is) (c .if2 .taken)
 
 put-update-requires : tie.Need-put-update-requires
-put-update-requires c κs = let s = update-sound _ _ _ _ (c .before .before .before .before .update-refusal .ensures) (c .before .before .before .if1 .left) in (rules _ (s .device), (image-reaches _ _ (s .image-is), (update-source _ _ _ (s .image-is) (s .reading-is), room-whole _ _ _ (c .before .before .update-length .ensures .is) (omega arith) (c .before .if2 .left))))
+put-update-requires c κs = let s = update-sound _ _ _ _ (c .before .before .before .before .update-refusal .ensures) (c .before .before .before .if1 .left) in (
+  rules _ (s .device),
+  (
+    image-reaches _ _ (s .image-is),
+    (update-source _ _ _ (s .image-is) (s .reading-is), room-whole _ _ _ (c .before .before .update-length .ensures .is) (omega arith) (c .before .if2 .left)),
+  ),
+)
 
 same-length : tie.Need-same-length
 same-length c = search needs
 
 returns-3 : tie.Need-returns-3
-returns-3 c = plans-done _ _ _ _ _ _ _ (c .before .before .before .before .before .before .before .update-refusal .ensures) (c .before .before .before .before .before .before .if1 .left) (c .before .before .before .before .before .update-length .ensures .is) (c .before .before .before .before .if2 .left) (c .before .before .put-update .ensures)
+returns-3 c = plans-done _ _ _ _ _ _ _ (c .before .before .before .before .before .before .before .update-refusal .ensures)
+    (c .before .before .before .before .before .before .if1 .left) (c .before .before .before .before .before .update-length .ensures .is)
+    (c .before .before .before .before .if2 .left) (c .before .before .put-update .ensures)
 
 pub update-spec : {M : Type 1} → statement M
 update-spec =

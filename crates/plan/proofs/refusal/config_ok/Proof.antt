@@ -19,26 +19,32 @@ add-second c = search needs
 wanted-word-requires : tie.Need-wanted-word-requires
 wanted-word-requires c κs = search needs
 
-known-word-requires : tie.Need-known-word-requires
-known-word-requires c κs = search needs
+mul-only-clears : tie.Need-mul-only-clears
+mul-only-clears c = search needs
 
-can-write-requires : tie.Need-can-write-requires
-can-write-requires c κs = search needs
+shared-slice-read-only-clears : tie.Need-shared-slice-read-only-clears
+shared-slice-read-only-clears c = search needs
+
+only-clears-requires : tie.Need-only-clears-requires
+only-clears-requires c κs = search needs
 
 returns : tie.Need-returns
-returns c = config-first _ _ _ (c .before .before .before .before .before .before .before .before .pre .0) _ _ (c .before .before .before .wanted-word .ensures) (c .before .before .known-word .ensures) _ (c .before .can-write .ensures) (c .if1 .left)
+returns c = search (config-first, needs)
 
 wanted-word-requires-2 : tie.Need-wanted-word-requires-2
 wanted-word-requires-2 c κs = search needs
 
-known-word-requires-2 : tie.Need-known-word-requires-2
-known-word-requires-2 c κs = search needs
+mul-only-clears-2 : tie.Need-mul-only-clears-2
+mul-only-clears-2 c = search needs
 
-can-write-requires-2 : tie.Need-can-write-requires-2
-can-write-requires-2 c κs = search needs
+shared-slice-read-only-clears-2 : tie.Need-shared-slice-read-only-clears-2
+shared-slice-read-only-clears-2 c = search needs
+
+only-clears-requires-2 : tie.Need-only-clears-requires-2
+only-clears-requires-2 c κs = search needs
 
 returns-2 : tie.Need-returns-2
-returns-2 c = config-both _ _ _ (c .before .before .before .before .before .before .before .before .before .before .before .pre .0) _ _ (c .before .before .before .before .before .before .wanted-word .ensures) (c .before .before .before .before .before .known-word .ensures) _ (c .before .before .before .before .can-write .ensures) (c .before .before .before .if1 .taken) _ _ (c .before .before .wanted-word2 .ensures) (c .before .known-word2 .ensures) _ (c .can-write2 .ensures)
+returns-2 c = search (config-both, needs)
 
 pub config-ok-spec : {M : Type 1} → statement M
 config-ok-spec =
@@ -49,10 +55,12 @@ config-ok-spec =
     cast-second
     add-second
     wanted-word-requires
-    known-word-requires
-    can-write-requires
+    mul-only-clears
+    shared-slice-read-only-clears
+    only-clears-requires
     returns
     wanted-word-requires-2
-    known-word-requires-2
-    can-write-requires-2
+    mul-only-clears-2
+    shared-slice-read-only-clears-2
+    only-clears-requires-2
     returns-2)

@@ -11,7 +11,11 @@ wanted-word-requires : tie.Need-wanted-word-requires
 wanted-word-requires c κs = c .before .before .before .before .pre .1 .0
 
 put-order-requires : tie.Need-put-order-requires
-put-order-requires c κs = (rw (c .wanted-word .ensures) (c .before .before .before .before .before .pre .0 .fits _), room-same _ _ _ _ (ap (λ w. LoadData w ∷ []) (sym (c .wanted-word .ensures))) (c .before .before .before .before .before .pre .1 .1))
+put-order-requires c κs = (
+  rw (c .wanted-word .ensures) (c .before .before .before .before .before .pre .0 .fits _),
+  room-same _ _ _ _
+      (ap (λ w. LoadData w ∷ []) (sym (c .wanted-word .ensures))) (c .before .before .before .before .before .pre .1 .1),
+)
 
 same-length : tie.Need-same-length
 same-length c = search needs

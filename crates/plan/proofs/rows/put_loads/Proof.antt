@@ -12,19 +12,33 @@ use Rattle.plan.proofs.rows.put_loads.Statement.{statement}
 use Rattle.plan.proofs.rows.put_loads.Tie as tie
 
 abbrev Inv-loop : tie.InvT-loop
-Inv-loop out₀ steps image reading first count done₀ i₀ left₀ out done i left = (0 < left) × (i + left ≡ first + count) × (length out ≡ length out₀) × Left (loads (wanted image reading) first count) steps out₀ (loads (wanted image reading) i left) done out
+Inv-loop out₀ steps d image reading first count done₀ i₀ left₀ out done i left = (0 < left) × (i + left ≡ first + count) × (length out ≡ length out₀) × Left
+    (loads (wanted d image reading) first count) steps out₀ (loads (wanted d image reading) i left) done out
 
 abbrev μ-loop : tie.MeasureT-loop
-μ-loop out₀ steps image reading first count done₀ i₀ left₀ out done i left = left
+μ-loop out₀ steps d image reading first count done₀ i₀ left₀ out done i left = left
 
 loop-holds : tie.Need-loop-holds Inv-loop μ-loop
 loop-holds c = (c .before .before .before .pre .1 .0 .0, refl, refl, left-all _ _ _)
 
 put-load-requires : tie.Need-put-load-requires Inv-loop μ-loop
-put-load-requires c κs = (c .before .before .before .before .before .before .pre .0, (omega arith, room-part _ _ _ _ _ _ _ (left-same _ _ _ _ _ _ _ (loads-more _ _ _ (c .before .loop-test .taken)) (c .before .before .loop .inv .3)) (c .before .before .before .before .before .before .pre .1 .1)))
+put-load-requires c κs = (
+  c .before .before .before .before .before .before .pre .0,
+  (
+    omega arith,
+    room-part _ _ _ _ _ _ _ (left-same _ _ _ _ _ _ _ (loads-more _ _ _ (c .before .loop-test .taken)) (c .before .before .loop .inv .3))
+        (c .before .before .before .before .before .before .pre .1 .1),
+  ),
+)
 
 put-order-requires : tie.Need-put-order-requires Inv-loop μ-loop
-put-order-requires c κs = (tt, room-part _ _ _ _ _ _ _ (left-then _ _ _ _ _ _ _ _ _ (left-same _ _ _ _ _ _ _ (loads-more _ _ _ (c .before .before .before .before .before .loop-test .taken)) (c .before .before .before .before .before .before .loop .inv .3)) (c .before .before .before .put-load .ensures)) (c .before .before .before .before .before .before .before .before .before .before .pre .1 .1))
+put-order-requires c κs = (
+  tt,
+  room-part _ _ _ _ _ _ _
+      (left-then _ _ _ _ _ _ _ _ _ (left-same _ _ _ _ _ _ _ (loads-more _ _ _ (c .before .before .before .before .before .loop-test .taken))
+      (c .before .before .before .before .before .before .loop .inv .3)) (c .before .before .before .put-load .ensures))
+      (c .before .before .before .before .before .before .before .before .before .before .pre .1 .1),
+)
 
 add-i : tie.Need-add-i Inv-loop μ-loop
 add-i c = omega arith
@@ -36,10 +50,21 @@ loop-less : tie.Need-loop-less Inv-loop μ-loop
 loop-less c = omega arith
 
 loop-again : tie.Need-loop-again Inv-loop μ-loop
-loop-again c = (omega arith, omega arith, search needs, left-then _ _ _ _ _ _ _ _ _ (left-then _ _ _ _ _ _ _ _ _ (left-same _ _ _ _ _ _ _ (loads-more _ _ _ (c .before .before .before .before .before .before .before .before .loop-test .taken)) (c .before .before .before .before .before .before .before .before .before .loop .inv .3)) (c .before .before .before .before .before .before .put-load .ensures)) (c .before .before .put-order .ensures))
+loop-again c = (
+  omega arith,
+  omega arith,
+  search needs,
+  left-then _ _ _ _ _ _ _ _ _
+      (left-then _ _ _ _ _ _ _ _ _ (left-same _ _ _ _ _ _ _ (loads-more _ _ _ (c .before .before .before .before .before .before .before .before .loop-test .taken))
+      (c .before .before .before .before .before .before .before .before .before .loop .inv .3)) (c .before .before .before .before .before .before .put-load .ensures))
+      (c .before .before .put-order .ensures),
+)
 
 put-load-requires-2 : tie.Need-put-load-requires-2 Inv-loop μ-loop
-put-load-requires-2 c κs = (c .before .before .before .before .before .before .pre .0, (omega arith, room-rest _ _ _ _ _ _ (left-same _ _ _ _ _ _ _ (loads-last _ _ _ (omega arith)) (c .before .before .loop .inv .3)) (c .before .before .before .before .before .before .pre .1 .1)))
+put-load-requires-2 c κs = (
+  c .before .before .before .before .before .before .pre .0,
+  (omega arith, room-rest _ _ _ _ _ _ (left-same _ _ _ _ _ _ _ (loads-last _ _ _ (omega arith)) (c .before .before .loop .inv .3)) (c .before .before .before .before .before .before .pre .1 .1)),
+)
 
 same-length : tie.Need-same-length Inv-loop μ-loop
 same-length c = search needs

@@ -1,60 +1,101 @@
 -- The rows from here on are left to be written.
-use Rattle.plan.specs.LawsPlanSteps.{rows-all}
-use Prim.Native.Nat.{_-_, _≤_}
+use Prim.Native.Nat.{_-_, _/_, _≤_}
 use native.Mathlib.Omega.{arith}
 use mathlib.Core.Path.{_≡_, refl, sym, _∙_}
 use lib.ListN.{length}
-use Rattle.plan.specs.Wanted.{wanted}
+use Rattle.target.specs.Chip.{chipOf}
+use Rattle.plan.specs.Wanted.{known, wanted, rowDiffers}
 use Rattle.plan.specs.Steps.{rowsFrom}
-use Rattle.plan.specs.LawsPlanSteps.{rows-yes, rows-no, rows-none, row-inside}
-use Rattle.plan.specs.LawsPlanWanted.{rowChanges, row-changes-is}
+use Rattle.plan.specs.LawsPlanSteps.{rows-all, rows-yes, rows-no, rows-none, row-before, row-inside}
+use Rattle.plan.specs.LawsPlanWanted.{row-differs}
+use Rattle.plan.specs.LawsPlanBounds.{some-row, few-rows, few-words, reach-rows}
 use Rattle.plan.specs.LawsPlanWrote.{Left, left-all, left-same, left-then, left-none, room-part}
 use borrow.Author.Needs.{needs}
 use Rattle.plan.proofs.rows.put_rows.Statement.{statement}
 use Rattle.plan.proofs.rows.put_rows.Tie as tie
 
 abbrev Inv-loop : tie.InvT-loop
-Inv-loop out₀ steps image reading row rows erase done₀ at₀ k₀ out done at k = (k ≤ rows) × (length out ≡ length out₀) × Left (rowsFrom erase (wanted image reading) (rowChanges image reading row) row rows 0 0) steps out₀ (rowsFrom erase (wanted image reading) (rowChanges image reading row) row (rows - k) k at) done out
+Inv-loop out₀ steps d image reading erase row rows done₀ at₀ k₀ out done at k = (k ≤ rows) × (length out ≡ length out₀) × Left
+    (rowsFrom (chipOf d) (λ j. erase) (wanted d image reading) (rowDiffers (chipOf d) (wanted d image reading) (known reading)) (d .words / d .row) 0 0) steps out₀
+    (rowsFrom (chipOf d) (λ j. erase) (wanted d image reading) (rowDiffers (chipOf d) (wanted d image reading) (known reading)) (d .words / d .row - k) k at) done out
 
 abbrev μ-loop : tie.MeasureT-loop
-μ-loop out₀ steps image reading row rows erase done₀ at₀ k₀ out done at k = rows - k
+μ-loop out₀ steps d image reading erase row rows done₀ at₀ k₀ out done at k = rows - k
+
+cast-row : tie.Need-cast-row Inv-loop μ-loop
+cast-row c = search needs
+
+cast-rows : tie.Need-cast-rows Inv-loop μ-loop
+cast-rows c = search needs
+
+div-rows : tie.Need-div-rows Inv-loop μ-loop
+div-rows c = some-row _ (c .before .before .before .before .before .pre .0)
 
 loop-holds : tie.Need-loop-holds Inv-loop μ-loop
 loop-holds c = (search needs, refl, left-same _ _ _ _ _ _ _ (rows-all _ _ _ _ _) (left-all _ _ _))
 
 mul-first : tie.Need-mul-first Inv-loop μ-loop
-mul-first c = let m = row-inside _ _ _ _ (c .loop-test .taken) (c .before .before .before .before .before .pre .1 .0 .1) in omega arith
+mul-first c = let m = row-inside _ _ _ _ (c .loop-test .taken) (few-words _ (c .before .before .before .before .before .before .before .pre .0)) in omega arith
 
 add-k : tie.Need-add-k Inv-loop μ-loop
-add-k c = omega arith
+add-k c = let m = row-before _ _ _ (c .loop-test .taken) (few-rows _ (c .before .before .before .before .before .before .before .pre .0)) in omega arith
 
 some-differ-requires : tie.Need-some-differ-requires Inv-loop μ-loop
-some-differ-requires c κs = let m = row-inside _ _ _ _ (c .loop-test .taken) (c .before .before .before .before .before .pre .1 .0 .1) in
-    let n = row-inside _ _ _ _ (c .loop-test .taken) (c .before .before .before .before .before .pre .1 .0 .2) in
+some-differ-requires c κs = let m = row-inside _ _ _ _ (c .loop-test .taken) (few-words _ (c .before .before .before .before .before .before .before .pre .0)) in
+    let n = row-inside _ _ _ _ (c .loop-test .taken) (reach-rows _ (c .before .before .before .before .before .before .before .pre .0) _
+    (c .before .before .before .before .before .before .before .pre .1 .1 .0)) in
     (omega arith, omega arith)
 
 put-row-requires : tie.Need-put-row-requires Inv-loop μ-loop
-put-row-requires c κs = let m = row-inside _ _ _ _ (c .before .before .before .loop-test .taken) (c .before .before .before .before .before .before .before .before .pre .1 .0 .1) in
-    let n = row-inside _ _ _ _ (c .before .before .before .loop-test .taken) (c .before .before .before .before .before .before .before .before .pre .1 .0 .2) in
-    (c .before .before .before .before .before .before .before .before .pre .0, ((c .before .before .before .before .before .before .before .before .pre .1 .0 .0, omega arith, omega arith), room-part _ _ _ _ _ _ _ (left-same _ _ _ _ _ _ _ (rows-yes _ _ _ _ _ _ _ (c .before .before .before .loop-test .taken) (sym (row-changes-is _ _ _ _) ∙ (sym (c .before .before .some-differ .ensures) ∙ c .before .if1 .taken))) (c .before .before .before .before .loop .inv .2)) (c .before .before .before .before .before .before .before .before .pre .1 .1)))
+put-row-requires c κs = let m = row-inside _ _ _ _ (c .before .before .before .loop-test .taken)
+    (few-words _ (c .before .before .before .before .before .before .before .before .before .before .pre .0)) in
+    let n = row-inside _ _ _ _ (c .before .before .before .loop-test .taken)
+    (reach-rows _ (c .before .before .before .before .before .before .before .before .before .before .pre .0) _
+    (c .before .before .before .before .before .before .before .before .before .before .pre .1 .1 .0)) in (
+      c .before .before .before .before .before .before .before .before .before .before .pre .1 .0,
+      (
+        (some-row _ (c .before .before .before .before .before .before .before .before .before .before .pre .0), omega arith, omega arith),
+        room-part _ _ _ _ _ _ _
+            (left-same _ _ _ _ _ _ _ (rows-yes _ _ _ _ _ _ _ (c .before .before .before .loop-test .taken)
+            (sym (row-differs (chipOf (c .before .before .before .before .before .before .before .before .before .before .args .d)) _ _ _) ∙
+            (sym (c .before .before .some-differ .ensures) ∙ c .before .if1 .taken))) (c .before .before .before .before .loop .inv .2))
+            (c .before .before .before .before .before .before .before .before .before .before .pre .1 .1 .1),
+      ),
+    )
 
 sub-at : tie.Need-sub-at Inv-loop μ-loop
-sub-at c = omega arith
+sub-at c = some-row _ (c .before .before .before .before .before .before .before .before .before .before .before .before .before .pre .0)
 
 add-at : tie.Need-add-at Inv-loop μ-loop
-add-at c = let m = row-inside _ _ _ _ (c .before .before .before .before .before .before .loop-test .taken) (c .before .before .before .before .before .before .before .before .before .before .before .pre .1 .0 .1) in omega arith
+add-at c = let m = row-inside _ _ _ _ (c .before .before .before .before .before .before .loop-test .taken)
+    (few-words _ (c .before .before .before .before .before .before .before .before .before .before .before .before .before .pre .0)) in omega arith
 
 loop-less : tie.Need-loop-less Inv-loop μ-loop
 loop-less c = omega arith
 
 loop-again : tie.Need-loop-again Inv-loop μ-loop
-loop-again c = (omega arith, search needs, left-then _ _ _ _ _ _ _ _ _ (left-same _ _ _ _ _ _ _ (rows-yes _ _ _ _ _ _ _ (c .before .before .before .before .before .before .loop-test .taken) (sym (row-changes-is _ _ _ _) ∙ (sym (c .before .before .before .before .before .some-differ .ensures) ∙ c .before .before .before .before .if1 .taken))) (c .before .before .before .before .before .before .before .loop .inv .2)) (c .before .before .put-row .ensures))
+loop-again c = (
+  omega arith,
+  search needs,
+  left-then _ _ _ _ _ _ _ _ _
+      (left-same _ _ _ _ _ _ _ (rows-yes _ _ _ _ _ _ _ (c .before .before .before .before .before .before .loop-test .taken)
+      (sym (row-differs (chipOf (c .before .before .before .before .before .before .before .before .before .before .before .before .before .args .d)) _ _ _) ∙
+      (sym (c .before .before .before .before .before .some-differ .ensures) ∙ c .before .before .before .before .if1 .taken)))
+      (c .before .before .before .before .before .before .before .loop .inv .2)) (c .before .before .put-row .ensures),
+)
 
 loop-less-2 : tie.Need-loop-less-2 Inv-loop μ-loop
 loop-less-2 c = omega arith
 
 loop-again-2 : tie.Need-loop-again-2 Inv-loop μ-loop
-loop-again-2 c = (omega arith, c .before .before .before .loop .inv .1, left-same _ _ _ _ _ _ _ (rows-no _ _ _ _ _ _ _ (c .before .before .loop-test .taken) (sym (row-changes-is _ _ _ _) ∙ (sym (c .before .some-differ .ensures) ∙ c .if1 .left))) (c .before .before .before .loop .inv .2))
+loop-again-2 c = (
+  omega arith,
+  c .before .before .before .loop .inv .1,
+  left-same _ _ _ _ _ _ _
+      (rows-no _ _ _ _ _ _ _ (c .before .before .loop-test .taken)
+      (sym (row-differs (chipOf (c .before .before .before .before .before .before .before .before .before .args .d)) _ _ _) ∙
+      (sym (c .before .some-differ .ensures) ∙ c .if1 .left))) (c .before .before .before .loop .inv .2),
+)
 
 same-length : tie.Need-same-length Inv-loop μ-loop
 same-length c = c .before .loop .inv .1
@@ -68,6 +109,9 @@ put-rows-spec =
     (tie.spec
     Inv-loop
     μ-loop
+    cast-row
+    cast-rows
+    div-rows
     loop-holds
     mul-first
     add-k

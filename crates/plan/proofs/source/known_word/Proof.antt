@@ -1,5 +1,5 @@
 -- Within the reading its word, past its end an erased one.
-use Rattle.plan.specs.LawsPlanWanted.{known-inside, known-past}
+use Rattle.plan.specs.LawsPlanWanted.{is-known, is-erased}
 use borrow.Author.Needs.{needs}
 use Rattle.plan.proofs.source.known_word.Statement.{statement}
 use Rattle.plan.proofs.source.known_word.Tie as tie
@@ -11,10 +11,10 @@ shared-slice-read-result : tie.Need-shared-slice-read-result
 shared-slice-read-result c = search needs
 
 returns : tie.Need-returns
-returns c = known-inside _ _ (c .before .if1 .taken)
+returns c = search (is-known, needs)
 
 returns-2 : tie.Need-returns-2
-returns-2 c = known-past _ _ (c .if1 .left)
+returns-2 c = search (is-erased, needs)
 
 pub known-word-spec : {M : Type 1} → statement M
 known-word-spec = tie.close (tie.spec mul-result shared-slice-read-result returns returns-2)

@@ -3,20 +3,20 @@ use Prim.Native.Nat.{_+_, _-_, _≤_}
 use native.Mathlib.Omega.{arith}
 use mathlib.Core.Bool.{false}
 use mathlib.Core.Path.{_≡_, sym, ap, _∙_}
-use Rattle.plan.specs.Wanted.{some, differs}
-use Rattle.plan.specs.LawsPlanWanted.{some-none, some-more, some-at}
+use Rattle.plan.specs.Wanted.{known, wanted, some, differs}
+use Rattle.plan.specs.LawsSome.{some-zero, some-more, some-here}
 use borrow.Author.Needs.{needs}
 use Rattle.plan.proofs.source.some_differ.Statement.{statement}
 use Rattle.plan.proofs.source.some_differ.Tie as tie
 
 abbrev Inv-loop : tie.InvT-loop
-Inv-loop image reading first count j₀ j = (j ≤ count) × (some j (λ k. differs image reading (first + k)) ≡ false)
+Inv-loop d image reading first count j₀ j = (j ≤ count) × (some j (λ k. differs (wanted d image reading) (known reading) (first + k)) ≡ false)
 
 abbrev μ-loop : tie.MeasureT-loop
-μ-loop image reading first count j₀ j = count - j
+μ-loop d image reading first count j₀ j = count - j
 
 loop-holds : tie.Need-loop-holds Inv-loop μ-loop
-loop-holds c = (search needs, some-none _)
+loop-holds c = (search needs, some-zero _)
 
 add-word-differs : tie.Need-add-word-differs Inv-loop μ-loop
 add-word-differs c = omega arith
@@ -25,7 +25,7 @@ word-differs-requires : tie.Need-word-differs-requires Inv-loop μ-loop
 word-differs-requires c κs = search needs
 
 returns : tie.Need-returns Inv-loop μ-loop
-returns c = sym (some-at _ _ _ (c .before .before .loop-test .taken) (sym (c .before .word-differs .ensures) ∙ c .if1 .taken))
+returns c = sym (some-here _ _ _ (c .before .before .loop-test .taken) (sym (c .before .word-differs .ensures) ∙ c .if1 .taken))
 
 add-j : tie.Need-add-j Inv-loop μ-loop
 add-j c = omega arith
@@ -37,7 +37,10 @@ loop-again : tie.Need-loop-again Inv-loop μ-loop
 loop-again c = (omega arith, some-more _ _ (c .before .before .before .loop .inv .1) (sym (c .before .word-differs .ensures) ∙ c .if1 .left))
 
 returns-2 : tie.Need-returns-2 Inv-loop μ-loop
-returns-2 c = let e : c .before .loop .j ≡ c .before .before .before .before .args .count = omega arith in sym (ap (λ n. some n (λ k. differs (c .before .before .before .before .args .image .now) (c .before .before .before .before .args .reading .now) (c .before .before .before .before .args .first + k))) (sym e) ∙ c .before .loop .inv .1)
+returns-2 c = let e : c .before .loop .j ≡ c .before .before .before .before .args .count = omega arith in sym
+    (ap (λ n. some n (λ k. differs (wanted (c .before .before .before .before .args .d) (c .before .before .before .before .args .image .now)
+    (c .before .before .before .before .args .reading .now)) (known (c .before .before .before .before .args .reading .now))
+    (c .before .before .before .before .args .first + k))) (sym e) ∙ c .before .loop .inv .1)
 
 pub some-differ-spec : {M : Type 1} → statement M
 some-differ-spec =

@@ -1,5 +1,5 @@
 -- The image's word where it gives one.
-use Rattle.plan.specs.LawsPlanWanted.{wanted-silent, wanted-given}
+use Rattle.plan.specs.LawsPlanWanted.{is-silent, is-given}
 use borrow.Author.Needs.{needs}
 use Rattle.plan.proofs.source.wanted_word.Statement.{statement}
 use Rattle.plan.proofs.source.wanted_word.Tie as tie
@@ -11,10 +11,10 @@ known-word-requires : tie.Need-known-word-requires
 known-word-requires c κs = search needs
 
 returns : tie.Need-returns
-returns c = wanted-silent _ _ _ _ _ (c .before .before .given-word .ensures) (c .known-word .ensures) (c .before .if1 .taken)
+returns c = search (is-silent, needs)
 
 returns-2 : tie.Need-returns-2
-returns-2 c = wanted-given _ _ _ _ 0 (c .before .given-word .ensures) (c .if1 .left)
+returns-2 c = search (is-given, needs)
 
 pub wanted-word-spec : {M : Type 1} → statement M
 wanted-word-spec = tie.close (tie.spec given-word-requires known-word-requires returns returns-2)

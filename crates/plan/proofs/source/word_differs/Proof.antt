@@ -11,7 +11,7 @@ known-word-requires : tie.Need-known-word-requires
 known-word-requires c κs = search needs
 
 returns : tie.Need-returns
-returns c = differs-is _ _ _ _ _ (c .before .wanted-word .ensures) (c .known-word .ensures)
+returns c = search (differs-is, needs)
 
 pub word-differs-spec : {M : Type 1} → statement M
 word-differs-spec = tie.close (tie.spec wanted-word-requires known-word-requires returns)

@@ -19,7 +19,8 @@ same-length : tie.Need-same-length
 same-length c = search needs
 
 returns : tie.Need-returns
-returns c = printed _ (checksum-short _ _) (prints-as _ _ _ _ _ (checksum-refused _ _ _ (c .before .before .before .before .before .before .open-board .ensures .0) (c .before .before .before .before .if1 .taken)) (c .before .before .refusal .ensures))
+returns c = printed _ (checksum-short _ _) (prints-as _ _ _ _ _
+    (checksum-refused _ _ _ (c .before .before .before .before .before .before .open-board .ensures .0) (c .before .before .before .before .if1 .taken)) (c .before .before .refusal .ensures))
 
 cast-count : tie.Need-cast-count
 cast-count c = search needs
@@ -28,7 +29,11 @@ add-count : tie.Need-add-count
 add-count c = search needs
 
 array-share-prefix-reading : tie.Need-array-share-prefix-reading
-array-share-prefix-reading c = omega (arith, (board-opened _ _ _ (c .before .before .before .before .open-board .ensures .0) (c .before .before .if1 .left) _ (c .before .before .before .before .open-board .ensures .1) _ (c .before .before .before .before .open-board .ensures .2)) .within)
+array-share-prefix-reading c = omega (
+  arith,
+  (board-opened _ _ _ (c .before .before .before .before .open-board .ensures .0) (c .before .before .if1 .left) _
+      (c .before .before .before .before .open-board .ensures .1) _ (c .before .before .before .before .open-board .ensures .2)) .within,
+)
 
 slice-aggregate-checksum : tie.Need-slice-aggregate-checksum
 slice-aggregate-checksum c = sym (length-take-le _ _ (array-share-prefix-reading (c .before)))
@@ -43,7 +48,14 @@ same-length-2 : tie.Need-same-length-2
 same-length-2 c = search needs
 
 returns-2 : tie.Need-returns-2
-returns-2 c = printed _ (checksum-short _ _) (prints-as _ _ _ _ _ (checksum-found _ _ _ (c .before .before .before .before .before .before .before .before .before .before .open-board .ensures .0) (c .before .before .before .before .before .before .before .before .if1 .left) _ _ (board-opened _ _ _ (c .before .before .before .before .before .before .before .before .before .before .open-board .ensures .0) (c .before .before .before .before .before .before .before .before .if1 .left) _ (c .before .before .before .before .before .before .before .before .before .before .open-board .ensures .1) _ (c .before .before .before .before .before .before .before .before .before .before .open-board .ensures .2)) _ (c .before .before .before .before .checksum .ensures)) (c .before .before .sum .ensures))
+returns-2 c = printed _ (checksum-short _ _) (prints-as _ _ _ _ _
+    (checksum-found _ _ _ (c .before .before .before .before .before .before .before .before .before .before .open-board .ensures .0)
+    (c .before .before .before .before .before .before .before .before .if1 .left) _ _
+    (board-opened _ _ _ (c .before .before .before .before .before .before .before .before .before .before .open-board .ensures .0)
+    (c .before .before .before .before .before .before .before .before .if1 .left) _
+    (c .before .before .before .before .before .before .before .before .before .before .open-board .ensures .1) _
+    (c .before .before .before .before .before .before .before .before .before .before .open-board .ensures .2)) _
+    (c .before .before .before .before .checksum .ensures)) (c .before .before .sum .ensures))
 
 pub checksum-spec : {M : Type 1} → statement M
 checksum-spec =

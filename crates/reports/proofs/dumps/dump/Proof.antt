@@ -20,7 +20,8 @@ same-length : tie.Need-same-length
 same-length c = search needs
 
 returns : tie.Need-returns
-returns c = printed _ (dump-short _ _) (prints-as _ _ _ _ _ (dump-refused _ _ _ (c .before .before .before .before .before .before .open-board .ensures .0) (c .before .before .before .before .if1 .taken)) (c .before .before .refusal .ensures))
+returns c = printed _ (dump-short _ _) (prints-as _ _ _ _ _
+    (dump-refused _ _ _ (c .before .before .before .before .before .before .open-board .ensures .0) (c .before .before .before .before .if1 .taken)) (c .before .before .refusal .ensures))
 
 cast-first : tie.Need-cast-first
 cast-first c = search needs
@@ -32,7 +33,11 @@ mul-image : tie.Need-mul-image
 mul-image c = search needs
 
 array-write-image : tie.Need-array-write-image
-array-write-image c = omega (arith, (board-opened _ _ _ (c .before .before .before .before .open-board .ensures .0) (c .before .before .if1 .left) _ (c .before .before .before .before .open-board .ensures .1) _ (c .before .before .before .before .open-board .ensures .2)) .most)
+array-write-image c = omega (
+  arith,
+  (board-opened _ _ _ (c .before .before .before .before .open-board .ensures .0) (c .before .before .if1 .left) _
+      (c .before .before .before .before .open-board .ensures .1) _ (c .before .before .before .before .open-board .ensures .2)) .most,
+)
 
 add-image : tie.Need-add-image
 add-image c = search needs
@@ -41,7 +46,11 @@ mul-image-2 : tie.Need-mul-image-2
 mul-image-2 c = search needs
 
 array-write-image-2 : tie.Need-array-write-image-2
-array-write-image-2 c = omega (arith, (board-opened _ _ _ (c .before .before .before .before .open-board .ensures .0) (c .before .before .if1 .left) _ (c .before .before .before .before .open-board .ensures .1) _ (c .before .before .before .before .open-board .ensures .2)) .most)
+array-write-image-2 c = omega (
+  arith,
+  (board-opened _ _ _ (c .before .before .before .before .open-board .ensures .0) (c .before .before .if1 .left) _
+      (c .before .before .before .before .open-board .ensures .1) _ (c .before .before .before .before .open-board .ensures .2)) .most,
+)
 
 add-image-2 : tie.Need-add-image-2
 add-image-2 c = search needs
@@ -50,7 +59,11 @@ mul-image-3 : tie.Need-mul-image-3
 mul-image-3 c = search needs
 
 array-write-image-3 : tie.Need-array-write-image-3
-array-write-image-3 c = omega (arith, (board-opened _ _ _ (c .before .before .before .before .open-board .ensures .0) (c .before .before .if1 .left) _ (c .before .before .before .before .open-board .ensures .1) _ (c .before .before .before .before .open-board .ensures .2)) .most)
+array-write-image-3 c = omega (
+  arith,
+  (board-opened _ _ _ (c .before .before .before .before .open-board .ensures .0) (c .before .before .if1 .left) _
+      (c .before .before .before .before .open-board .ensures .1) _ (c .before .before .before .before .open-board .ensures .2)) .most,
+)
 
 cast-count : tie.Need-cast-count
 cast-count c = search needs
@@ -59,10 +72,13 @@ add-count : tie.Need-add-count
 add-count c = search needs
 
 array-share-prefix-image : tie.Need-array-share-prefix-image
-array-share-prefix-image c = simp length-set ((board-opened _ _ _ (c .before .before .before .before .before .open-board .ensures .0) (c .before .before .before .if1 .left) _ (c .before .before .before .before .before .open-board .ensures .1) _ (c .before .before .before .before .before .open-board .ensures .2)) .within)
+array-share-prefix-image c = simp length-set ((board-opened _ _ _ (c .before .before .before .before .before .open-board .ensures .0)
+    (c .before .before .before .if1 .left) _ (c .before .before .before .before .before .open-board .ensures .1) _ (c .before .before .before .before .before .open-board .ensures .2)) .within)
 
 slice-aggregate-write-hex : tie.Need-slice-aggregate-write-hex
-slice-aggregate-write-hex c = sym (length-take-le _ _ (simp length-set ((board-opened _ _ _ (c .before .before .before .before .before .before .open-board .ensures .0) (c .before .before .before .before .if1 .left) _ (c .before .before .before .before .before .before .open-board .ensures .1) _ (c .before .before .before .before .before .before .open-board .ensures .2)) .within)))
+slice-aggregate-write-hex c = sym (length-take-le _ _
+    (simp length-set ((board-opened _ _ _ (c .before .before .before .before .before .before .open-board .ensures .0) (c .before .before .before .before .if1 .left) _
+    (c .before .before .before .before .before .before .open-board .ensures .1) _ (c .before .before .before .before .before .before .open-board .ensures .2)) .within)))
 
 slice-aggregate-write-hex-2 : tie.Need-slice-aggregate-write-hex-2
 slice-aggregate-write-hex-2 c = search needs
@@ -71,10 +87,21 @@ write-hex-requires : tie.Need-write-hex-requires
 write-hex-requires c κs = search needs
 
 array-share-prefix-hex : tie.Need-array-share-prefix-hex
-array-share-prefix-hex c = (dump-written _ _ _ (c .before .before .before .before .before .before .before .before .before .before .open-board .ensures .0) (c .before .before .before .before .before .before .before .before .if1 .left) _ _ (board-opened _ _ _ (c .before .before .before .before .before .before .before .before .before .before .open-board .ensures .0) (c .before .before .before .before .before .before .before .before .if1 .left) _ (c .before .before .before .before .before .before .before .before .before .before .open-board .ensures .1) _ (c .before .before .before .before .before .before .before .before .before .before .open-board .ensures .2)) _ refl _ _ (c .before .before .write-hex .ensures)) .within
+array-share-prefix-hex c = (dump-written _ _ _ (c .before .before .before .before .before .before .before .before .before .before .open-board .ensures .0)
+    (c .before .before .before .before .before .before .before .before .if1 .left) _ _
+    (board-opened _ _ _ (c .before .before .before .before .before .before .before .before .before .before .open-board .ensures .0)
+    (c .before .before .before .before .before .before .before .before .if1 .left) _
+    (c .before .before .before .before .before .before .before .before .before .before .open-board .ensures .1) _
+    (c .before .before .before .before .before .before .before .before .before .before .open-board .ensures .2)) _ refl _ _ (c .before .before .write-hex .ensures)) .within
 
 slice-aggregate-text : tie.Need-slice-aggregate-text
-slice-aggregate-text c = sym (length-take-le _ _ ((dump-written _ _ _ (c .before .before .before .before .before .before .before .before .before .before .before .open-board .ensures .0) (c .before .before .before .before .before .before .before .before .before .if1 .left) _ _ (board-opened _ _ _ (c .before .before .before .before .before .before .before .before .before .before .before .open-board .ensures .0) (c .before .before .before .before .before .before .before .before .before .if1 .left) _ (c .before .before .before .before .before .before .before .before .before .before .before .open-board .ensures .1) _ (c .before .before .before .before .before .before .before .before .before .before .before .open-board .ensures .2)) _ refl _ _ (c .before .before .before .write-hex .ensures)) .within))
+slice-aggregate-text c = sym (length-take-le _ _ ((dump-written _ _ _
+    (c .before .before .before .before .before .before .before .before .before .before .before .open-board .ensures .0)
+    (c .before .before .before .before .before .before .before .before .before .if1 .left) _ _
+    (board-opened _ _ _ (c .before .before .before .before .before .before .before .before .before .before .before .open-board .ensures .0)
+    (c .before .before .before .before .before .before .before .before .before .if1 .left) _
+    (c .before .before .before .before .before .before .before .before .before .before .before .open-board .ensures .1) _
+    (c .before .before .before .before .before .before .before .before .before .before .before .open-board .ensures .2)) _ refl _ _ (c .before .before .before .write-hex .ensures)) .within))
 
 text-requires : tie.Need-text-requires
 text-requires c κs = search needs
@@ -83,7 +110,14 @@ same-length-2 : tie.Need-same-length-2
 same-length-2 c = search needs
 
 returns-2 : tie.Need-returns-2
-returns-2 c = printed _ (dump-short _ _) (prints-as _ _ _ _ _ ((dump-written _ _ _ (c .before .before .before .before .before .before .before .before .before .before .before .before .before .before .open-board .ensures .0) (c .before .before .before .before .before .before .before .before .before .before .before .before .if1 .left) _ _ (board-opened _ _ _ (c .before .before .before .before .before .before .before .before .before .before .before .before .before .before .open-board .ensures .0) (c .before .before .before .before .before .before .before .before .before .before .before .before .if1 .left) _ (c .before .before .before .before .before .before .before .before .before .before .before .before .before .before .open-board .ensures .1) _ (c .before .before .before .before .before .before .before .before .before .before .before .before .before .before .open-board .ensures .2)) _ refl _ _ (c .before .before .before .before .before .before .write-hex .ensures)) .whole) (c .before .before .text .ensures))
+returns-2 c = printed _ (dump-short _ _) (prints-as _ _ _ _ _
+    ((dump-written _ _ _ (c .before .before .before .before .before .before .before .before .before .before .before .before .before .before .open-board .ensures .0)
+    (c .before .before .before .before .before .before .before .before .before .before .before .before .if1 .left) _ _
+    (board-opened _ _ _ (c .before .before .before .before .before .before .before .before .before .before .before .before .before .before .open-board .ensures .0)
+    (c .before .before .before .before .before .before .before .before .before .before .before .before .if1 .left) _
+    (c .before .before .before .before .before .before .before .before .before .before .before .before .before .before .open-board .ensures .1) _
+    (c .before .before .before .before .before .before .before .before .before .before .before .before .before .before .open-board .ensures .2)) _ refl _ _
+    (c .before .before .before .before .before .before .write-hex .ensures)) .whole) (c .before .before .text .ensures))
 
 pub dump-spec : {M : Type 1} → statement M
 dump-spec =

@@ -33,7 +33,8 @@ byte-is-requires : tie.Need-byte-is-requires
 byte-is-requires c κs = search needs
 
 returns-3 : tie.Need-returns-3
-returns-3 c = c .byte-is .ensures ∙ line-end _ _ _ _ (sym (c .before .before .before .before .capital-word .ensures) ∙ c .before .before .before .if1 .left) (sym (c .before .before .fields-ok .ensures) ∙ c .before .if2 .taken)
+returns-3 c = c .byte-is .ensures ∙ line-end _ _ _ _ (sym (c .before .before .before .before .capital-word .ensures) ∙ c .before .before .before .if1 .left)
+    (sym (c .before .before .fields-ok .ensures) ∙ c .before .if2 .taken)
 
 pub line-ok-spec : {M : Type 1} → statement M
 line-ok-spec =

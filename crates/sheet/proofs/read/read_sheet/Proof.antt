@@ -41,8 +41,10 @@ same-length : tie.Need-same-length
 same-length c = search needs
 
 returns-4 : tie.Need-returns-4
-returns-4 c = let sound = ok-of-judged _ (sym (c .before .before .before .before .before .before .before .before .before .judge .ensures) ∙ c .before .before .before .before .before .before .before .before .if1 .left) in
-    read-all _ _ _ sound (c .before .before .before .before .before .before .if2 .left) (sym (places-sheet _ sound _) ∙ (sym (c .before .before .before .before .before .places-ok .ensures) ∙ c .before .before .before .before .if3 .taken)) _ (c .before .before .store .ensures)
+returns-4 c = let sound = ok-of-judged _ (sym (c .before .before .before .before .before .before .before .before .before .judge .ensures)
+    ∙ c .before .before .before .before .before .before .before .before .if1 .left) in
+    read-all _ _ _ sound (c .before .before .before .before .before .before .if2 .left)
+    (sym (places-sheet _ sound _) ∙ (sym (c .before .before .before .before .before .places-ok .ensures) ∙ c .before .before .before .before .if3 .taken)) _ (c .before .before .store .ensures)
 
 pub read-sheet-spec : {M : Type 1} → statement M
 read-sheet-spec =

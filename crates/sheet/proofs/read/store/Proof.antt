@@ -1,5 +1,6 @@
 -- Each word passed is stored, and the rest is as it was.
 use Rattle.numerals.specs.Hex.{capitalOf, wordBy}
+use Rattle.device.specs.Memory.{readingTail}
 use denote.Ref.{now}
 use Prim.Native.Nat.{_+_, _-_, _≤_}
 use mathlib.Core.Path.{_≡_, ap, _∙_}
@@ -11,10 +12,10 @@ use Rattle.sheet.proofs.read.store.Statement.{statement}
 use Rattle.sheet.proofs.read.store.Tie as tie
 
 abbrev Inv-loop : tie.InvT-loop
-Inv-loop program text buffer₀ i₀ buffer i = (i ≤ program + 9) × (length buffer ≡ program + 9) × (buffer ≡ stored program text i buffer₀)
+Inv-loop program text buffer₀ i₀ buffer i = (i ≤ program + readingTail) × (length buffer ≡ program + readingTail) × (buffer ≡ stored program text i buffer₀)
 
 abbrev μ-loop : tie.MeasureT-loop
-μ-loop program text buffer₀ i₀ buffer i = program + 9 - i
+μ-loop program text buffer₀ i₀ buffer i = program + readingTail - i
 
 loop-holds : tie.Need-loop-holds Inv-loop μ-loop
 loop-holds c = (search needs, c .before .before .pre .1, stored-none _ _ _)

@@ -58,7 +58,13 @@ loop-less : tie.Need-loop-less Inv-loop μ-loop
 loop-less c = omega arith
 
 loop-again : tie.Need-loop-again Inv-loop μ-loop
-loop-again c = (omega arith, search needs, c .before .before .before .before .before .before .before .before .before .before .loop .inv .2 ∙ fields-turn _ _ _ _ (c .before .before .before .before .before .before .before .before .before .loop-test .taken) _ _ _ _ (c .before .before .before .before .before .before .before .put .ensures) (c .before .before .put-word .ensures))
+loop-again c = (
+  omega arith,
+  search needs,
+  c .before .before .before .before .before .before .before .before .before .before .loop .inv .2 ∙ fields-turn _ _ _ _
+      (c .before .before .before .before .before .before .before .before .before .loop-test .taken) _ _ _ _
+      (c .before .before .before .before .before .before .before .put .ensures) (c .before .before .put-word .ensures),
+)
 
 same-length : tie.Need-same-length Inv-loop μ-loop
 same-length c = search needs

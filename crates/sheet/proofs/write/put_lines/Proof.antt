@@ -45,7 +45,12 @@ loop-less : tie.Need-loop-less Inv-loop μ-loop
 loop-less c = omega arith
 
 loop-again : tie.Need-loop-again Inv-loop μ-loop
-loop-again c = (omega arith, search needs, c .before .before .before .before .before .loop .inv .2 ∙ lines-turn _ _ _ _ _ (c .before .before .before .before .loop-test .taken) (c .before .before .put-line .ensures))
+loop-again c = (
+  omega arith,
+  search needs,
+  c .before .before .before .before .before .loop .inv .2 ∙ lines-turn _ _ _ _ _
+      (c .before .before .before .before .loop-test .taken) (c .before .before .put-line .ensures),
+)
 
 same-length : tie.Need-same-length Inv-loop μ-loop
 same-length c = search needs

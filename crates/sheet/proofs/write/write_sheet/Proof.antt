@@ -1,8 +1,7 @@
 -- The refusals in their order, then the four parts of the sheet.
 use native.Mathlib.Omega.{arith}
-use Rattle.words.specs.LawsWord.{words-long}
+use Rattle.device.specs.LawsMemory.{reading-long}
 use mathlib.Core.Path.{refl, sym, _∙_}
-use Rattle.device.specs.Memory.{readingOk}
 use Rattle.device.specs.LawsRecord.{ok-of-judged, bad-of-judged, rules-of-judged}
 use Rattle.sheet.specs.Sheet.{sheetLength}
 use Rattle.sheet.specs.LawsWrite.{refused-record, refused-reading, refused-short, all-written, sheet-put}
@@ -16,18 +15,14 @@ judge-requires c κs = search needs
 returns : tie.Need-returns
 returns c = refused-record _ _ _ (bad-of-judged _ (λ e. c .if1 .taken (c .before .judge .ensures ∙ e)))
 
-cast-program : tie.Need-cast-program
-cast-program c = search needs
-
-add-is-words : tie.Need-add-is-words
-add-is-words c = search needs
-
-is-words-requires : tie.Need-is-words-requires
-is-words-requires c κs = search needs
+is-reading-requires : tie.Need-is-reading-requires
+is-reading-requires c κs = search needs
 
 returns-2 : tie.Need-returns-2
-unfolding readingOk
-returns-2 c = refused-reading _ _ _ (ok-of-judged _ (sym (c .before .before .before .before .judge .ensures) ∙ c .before .before .before .if1 .left)) (sym (c .before .is-words .ensures) ∙ c .if2 .left)
+returns-2 c = refused-reading _ _ _ (ok-of-judged _ (sym (c .before .before .before .judge .ensures) ∙ c .before .before .if1 .left)) (sym (c .before .is-reading .ensures) ∙ c .if2 .left)
+
+cast-program : tie.Need-cast-program
+cast-program c = search needs
 
 mul-length : tie.Need-mul-length
 mul-length c = search needs
@@ -39,8 +34,9 @@ add-length-2 : tie.Need-add-length-2
 add-length-2 c = search needs
 
 returns-3 : tie.Need-returns-3
-unfolding readingOk sheetLength
-returns-3 c = refused-short _ _ _ (ok-of-judged _ (sym (c .before .before .before .before .before .judge .ensures) ∙ c .before .before .before .before .if1 .left)) (sym (c .before .before .is-words .ensures) ∙ c .before .if2 .taken) (c .if3 .taken)
+unfolding sheetLength
+returns-3 c = refused-short _ _ _ (ok-of-judged _ (sym (c .before .before .before .before .before .judge .ensures) ∙ c .before .before .before .before .if1 .left))
+    (sym (c .before .before .before .is-reading .ensures) ∙ c .before .before .if2 .taken) (c .if3 .taken)
 
 put-word-requires : tie.Need-put-word-requires
 put-word-requires c κs = search needs
@@ -49,8 +45,11 @@ put-requires : tie.Need-put-requires
 put-requires c κs = search needs
 
 put-lines-requires : tie.Need-put-lines-requires
-put-lines-requires c κs = let r = rules-of-judged _ (sym (c .before .before .before .before .before .before .before .before .before .before .before .before .before .before .judge .ensures) ∙ c .before .before .before .before .before .before .before .before .before .before .before .before .before .if1 .left) in
-    let n = words-long _ _ (sym (c .before .before .before .before .before .before .before .before .before .before .before .is-words .ensures) ∙ c .before .before .before .before .before .before .before .before .before .before .if2 .taken) in
+put-lines-requires c κs = let r = rules-of-judged _
+    (sym (c .before .before .before .before .before .before .before .before .before .before .before .before .before .before .judge .ensures)
+    ∙ c .before .before .before .before .before .before .before .before .before .before .before .before .before .if1 .left) in
+    let n = reading-long _ _ (sym (c .before .before .before .before .before .before .before .before .before .before .before .before .is-reading .ensures)
+    ∙ c .before .before .before .before .before .before .before .before .before .before .before .if2 .taken) in
     (omega arith, omega arith, omega arith)
 
 mul-put-line : tie.Need-mul-put-line
@@ -60,16 +59,18 @@ add-put-line : tie.Need-add-put-line
 add-put-line c = search needs
 
 put-line-requires : tie.Need-put-line-requires
-put-line-requires c κs = let r = rules-of-judged _ (sym (c .before .before .before .before .before .before .before .before .before .before .before .before .before .before .before .before .before .before .judge .ensures) ∙ c .before .before .before .before .before .before .before .before .before .before .before .before .before .before .before .before .before .if1 .left) in
-    let n = words-long _ _ (sym (c .before .before .before .before .before .before .before .before .before .before .before .before .before .before .before .is-words .ensures) ∙ c .before .before .before .before .before .before .before .before .before .before .before .before .before .before .if2 .taken) in
+put-line-requires c κs = let r = rules-of-judged _
+    (sym (c .before .before .before .before .before .before .before .before .before .before .before .before .before .before .before .before .before .before .judge .ensures) ∙ c .before .before .before .before .before .before .before .before .before .before .before .before .before .before .before .before .before .if1 .left) in
+    let n = reading-long _ _ (sym (c .before .before .before .before .before .before .before .before .before .before .before .before .before .before .before .before .is-reading .ensures) ∙ c .before .before .before .before .before .before .before .before .before .before .before .before .before .before .before .if2 .taken) in
     (omega arith, omega arith)
 
 same-length : tie.Need-same-length
 same-length c = search needs
 
 returns-4 : tie.Need-returns-4
-unfolding readingOk sheetLength
-returns-4 c = all-written _ _ _ (ok-of-judged _ (sym (c .before .before .before .before .before .before .before .before .before .before .before .before .before .before .before .before .before .before .before .before .before .judge .ensures) ∙ c .before .before .before .before .before .before .before .before .before .before .before .before .before .before .before .before .before .before .before .before .if1 .left)) (sym (c .before .before .before .before .before .before .before .before .before .before .before .before .before .before .before .before .before .before .is-words .ensures) ∙ c .before .before .before .before .before .before .before .before .before .before .before .before .before .before .before .before .before .if2 .taken) (c .before .before .before .before .before .before .before .before .before .before .before .before .before .before .before .before .if3 .left) _ refl _ (sheet-put _ _ _ _ _ _ _ (c .before .before .before .before .before .before .before .before .before .before .before .before .before .before .put-word .ensures) (c .before .before .before .before .before .before .before .before .before .before .put .ensures) (c .before .before .before .before .before .before .put-lines .ensures) (c .before .before .put-line .ensures))
+unfolding sheetLength
+returns-4 c = all-written _ _ _ (ok-of-judged _ (sym
+    (c .before .before .before .before .before .before .before .before .before .before .before .before .before .before .before .before .before .before .before .before .before .judge .ensures) ∙ c .before .before .before .before .before .before .before .before .before .before .before .before .before .before .before .before .before .before .before .before .if1 .left)) (sym (c .before .before .before .before .before .before .before .before .before .before .before .before .before .before .before .before .before .before .before .is-reading .ensures) ∙ c .before .before .before .before .before .before .before .before .before .before .before .before .before .before .before .before .before .before .if2 .taken) (c .before .before .before .before .before .before .before .before .before .before .before .before .before .before .before .before .if3 .left) _ refl _ (sheet-put _ _ _ _ _ _ _ (c .before .before .before .before .before .before .before .before .before .before .before .before .before .before .put-word .ensures) (c .before .before .before .before .before .before .before .before .before .before .put .ensures) (c .before .before .before .before .before .before .put-lines .ensures) (c .before .before .put-line .ensures))
 
 pub write-sheet-spec : {M : Type 1} → statement M
 write-sheet-spec =
@@ -77,10 +78,9 @@ write-sheet-spec =
     (tie.spec
     judge-requires
     returns
-    cast-program
-    add-is-words
-    is-words-requires
+    is-reading-requires
     returns-2
+    cast-program
     mul-length
     add-length
     add-length-2

@@ -26,7 +26,8 @@ find-requires-3 : tie.Need-find-requires-3
 find-requires-3 c κs = search needs
 
 returns-3 : tie.Need-returns-3
-returns-3 c = few _ 0 0 0 0 0 (none-3 _ _ (c .before .before .before .before .before .find .ensures .0) (c .before .before .before .before .if1 .left) _ (c .before .before .before .find2 .ensures .0) (c .before .before .if2 .left) _ (c .before .find3 .ensures .0) (c .if3 .taken))
+returns-3 c = few _ 0 0 0 0 0 (none-3 _ _ (c .before .before .before .before .before .find .ensures .0) (c .before .before .before .before .if1 .left) _
+    (c .before .before .before .find2 .ensures .0) (c .before .before .if2 .left) _ (c .before .find3 .ensures .0) (c .if3 .taken))
 
 add-find-3 : tie.Need-add-find-3
 add-find-3 c = search needs
@@ -35,7 +36,9 @@ find-requires-4 : tie.Need-find-requires-4
 find-requires-4 c κs = search needs
 
 returns-4 : tie.Need-returns-4
-returns-4 c = few _ 0 0 0 0 0 (none-4 _ _ (c .before .before .before .before .before .before .before .find .ensures .0) (c .before .before .before .before .before .before .if1 .left) _ (c .before .before .before .before .before .find2 .ensures .0) (c .before .before .before .before .if2 .left) _ (c .before .before .before .find3 .ensures .0) (c .before .before .if3 .left) _ (c .before .find4 .ensures .0) (c .if4 .taken))
+returns-4 c = few _ 0 0 0 0 0 (none-4 _ _ (c .before .before .before .before .before .before .before .find .ensures .0)
+    (c .before .before .before .before .before .before .if1 .left) _ (c .before .before .before .before .before .find2 .ensures .0)
+    (c .before .before .before .before .if2 .left) _ (c .before .before .before .find3 .ensures .0) (c .before .before .if3 .left) _ (c .before .find4 .ensures .0) (c .if4 .taken))
 
 add-find-4 : tie.Need-add-find-4
 add-find-4 c = search needs
@@ -44,7 +47,10 @@ find-requires-5 : tie.Need-find-requires-5
 find-requires-5 c κs = search needs
 
 returns-5 : tie.Need-returns-5
-returns-5 c = few _ 0 0 0 0 0 (none-5 _ _ (c .before .before .before .before .before .before .before .before .before .find .ensures .0) (c .before .before .before .before .before .before .before .before .if1 .left) _ (c .before .before .before .before .before .before .before .find2 .ensures .0) (c .before .before .before .before .before .before .if2 .left) _ (c .before .before .before .before .before .find3 .ensures .0) (c .before .before .before .before .if3 .left) _ (c .before .before .before .find4 .ensures .0) (c .before .before .if4 .left) _ (c .before .find5 .ensures .0) (c .if5 .taken))
+returns-5 c = few _ 0 0 0 0 0 (none-5 _ _ (c .before .before .before .before .before .before .before .before .before .find .ensures .0)
+    (c .before .before .before .before .before .before .before .before .if1 .left) _ (c .before .before .before .before .before .before .before .find2 .ensures .0)
+    (c .before .before .before .before .before .before .if2 .left) _ (c .before .before .before .before .before .find3 .ensures .0)
+    (c .before .before .before .before .if3 .left) _ (c .before .before .before .find4 .ensures .0) (c .before .before .if4 .left) _ (c .before .find5 .ensures .0) (c .if5 .taken))
 
 add-find-5 : tie.Need-add-find-5
 add-find-5 c = search needs
@@ -53,10 +59,20 @@ find-requires-6 : tie.Need-find-requires-6
 find-requires-6 c κs = search needs
 
 returns-6 : tie.Need-returns-6
-returns-6 c = few _ 0 0 0 0 0 (sixth _ _ (c .before .before .before .before .before .before .before .before .before .before .before .find .ensures .0) (c .before .before .before .before .before .before .before .before .before .before .if1 .left) _ (c .before .before .before .before .before .before .before .before .before .find2 .ensures .0) (c .before .before .before .before .before .before .before .before .if2 .left) _ (c .before .before .before .before .before .before .before .find3 .ensures .0) (c .before .before .before .before .before .before .if3 .left) _ (c .before .before .before .before .before .find4 .ensures .0) (c .before .before .before .before .if4 .left) _ (c .before .before .before .find5 .ensures .0) (c .before .before .if5 .left) _ (c .before .find6 .ensures .0) (c .if6 .taken))
+returns-6 c = few _ 0 0 0 0 0 (sixth _ _ (c .before .before .before .before .before .before .before .before .before .before .before .find .ensures .0)
+    (c .before .before .before .before .before .before .before .before .before .before .if1 .left) _
+    (c .before .before .before .before .before .before .before .before .before .find2 .ensures .0)
+    (c .before .before .before .before .before .before .before .before .if2 .left) _ (c .before .before .before .before .before .before .before .find3 .ensures .0)
+    (c .before .before .before .before .before .before .if3 .left) _ (c .before .before .before .before .before .find4 .ensures .0)
+    (c .before .before .before .before .if4 .left) _ (c .before .before .before .find5 .ensures .0) (c .before .before .if5 .left) _ (c .before .find6 .ensures .0) (c .if6 .taken))
 
 returns-7 : tie.Need-returns-7
-returns-7 c = all-five _ _ (c .before .before .before .before .before .before .before .before .before .before .before .find .ensures .0) (c .before .before .before .before .before .before .before .before .before .before .if1 .left) _ (c .before .before .before .before .before .before .before .before .before .find2 .ensures .0) (c .before .before .before .before .before .before .before .before .if2 .left) _ (c .before .before .before .before .before .before .before .find3 .ensures .0) (c .before .before .before .before .before .before .if3 .left) _ (c .before .before .before .before .before .find4 .ensures .0) (c .before .before .before .before .if4 .left) _ (c .before .before .before .find5 .ensures .0) (c .before .before .if5 .left) _ (c .before .find6 .ensures .0) (c .if6 .left)
+returns-7 c = all-five _ _ (c .before .before .before .before .before .before .before .before .before .before .before .find .ensures .0)
+    (c .before .before .before .before .before .before .before .before .before .before .if1 .left) _
+    (c .before .before .before .before .before .before .before .before .before .find2 .ensures .0)
+    (c .before .before .before .before .before .before .before .before .if2 .left) _ (c .before .before .before .before .before .before .before .find3 .ensures .0)
+    (c .before .before .before .before .before .before .if3 .left) _ (c .before .before .before .before .before .find4 .ensures .0)
+    (c .before .before .before .before .if4 .left) _ (c .before .before .before .find5 .ensures .0) (c .before .before .if5 .left) _ (c .before .find6 .ensures .0) (c .if6 .left)
 
 pub cut-spec : {M : Type 1} → statement M
 cut-spec =

@@ -14,6 +14,9 @@ no-device-requires c κs = search needs
 returns : tie.Need-returns
 returns c = not-made _ _ _ _ _ _ _ (c .no-device .ensures) (λ r. omega arith)
 
+cast-if2 : tie.Need-cast-if2
+cast-if2 c = search needs
+
 no-device-requires-2 : tie.Need-no-device-requires-2
 no-device-requires-2 c κs = search needs
 
@@ -38,9 +41,6 @@ no-device-requires-5 c κs = search needs
 returns-5 : tie.Need-returns-5
 returns-5 c = not-made _ _ _ _ _ _ _ (c .no-device5 .ensures) (λ r. omega arith)
 
-cast-t8 : tie.Need-cast-t8
-cast-t8 c = search needs
-
 cast-t9 : tie.Need-cast-t9
 cast-t9 c = search needs
 
@@ -52,6 +52,9 @@ cast-t11 c = search needs
 
 cast-t12 : tie.Need-cast-t12
 cast-t12 c = search needs
+
+cast-t13 : tie.Need-cast-t13
+cast-t13 c = search needs
 
 judge-requires : tie.Need-judge-requires
 judge-requires c κs = search needs
@@ -71,6 +74,7 @@ device-of-spec =
     (tie.spec
     no-device-requires
     returns
+    cast-if2
     no-device-requires-2
     returns-2
     no-device-requires-3
@@ -79,11 +83,11 @@ device-of-spec =
     returns-4
     no-device-requires-5
     returns-5
-    cast-t8
     cast-t9
     cast-t10
     cast-t11
     cast-t12
+    cast-t13
     judge-requires
     no-device-requires-6
     returns-6

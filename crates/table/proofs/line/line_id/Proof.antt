@@ -33,7 +33,8 @@ hex-field-requires : tie.Need-hex-field-requires
 hex-field-requires c κs = search needs
 
 returns-2 : tie.Need-returns-2
-returns-2 c = c .hex-field .ensures ∙ sym (id-field _ _ (c .before .before .before .before .find .ensures .0) (c .before .before .before .if1 .left) _ (c .before .before .find2 .ensures .0) (c .before .before .find2 .ensures .1))
+returns-2 c = c .hex-field .ensures ∙ sym (id-field _ _ (c .before .before .before .before .find .ensures .0) (c .before .before .before .if1 .left) _
+    (c .before .before .find2 .ensures .0) (c .before .before .find2 .ensures .1))
 
 pub line-id-spec : {M : Type 1} → statement M
 line-id-spec =

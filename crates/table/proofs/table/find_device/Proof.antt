@@ -30,13 +30,15 @@ read-line-requires : tie.Need-read-line-requires
 read-line-requires c κs = search needs
 
 returns-2 : tie.Need-returns-2
-returns-2 c = found-here _ _ (good-of-number _ (sym (c .before .before .before .before .before .before .judge-table .ensures) ∙ c .before .before .before .before .before .if1 .left)) _ _ _ (c .before .before .before .before .seek .ensures) (c .before .before .before .if2 .taken) _ _ _ (c .before .read-line .ensures)
+returns-2 c = found-here _ _ (good-of-number _ (sym (c .before .before .before .before .before .before .judge-table .ensures)
+    ∙ c .before .before .before .before .before .if1 .left)) _ _ _ (c .before .before .before .before .seek .ensures) (c .before .before .before .if2 .taken) _ _ _ (c .before .read-line .ensures)
 
 refusal-requires-2 : tie.Need-refusal-requires-2
 refusal-requires-2 c κs = search needs
 
 returns-3 : tie.Need-returns-3
-returns-3 c = c .refusal2 .ensures ∙ sym (found-none _ _ (good-of-number _ (sym (c .before .before .before .before .judge-table .ensures) ∙ c .before .before .before .if1 .left)) _ _ _ (c .before .before .seek .ensures) (c .before .if2 .left))
+returns-3 c = c .refusal2 .ensures ∙ sym (found-none _ _
+    (good-of-number _ (sym (c .before .before .before .before .judge-table .ensures) ∙ c .before .before .before .if1 .left)) _ _ _ (c .before .before .seek .ensures) (c .before .if2 .left))
 
 pub find-device-spec : {M : Type 1} → statement M
 find-device-spec =

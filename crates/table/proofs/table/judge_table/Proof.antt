@@ -37,7 +37,8 @@ read-line-requires : tie.Need-read-line-requires Inv-loop μ-loop
 read-line-requires c κs = search needs
 
 returns-2 : tie.Need-returns-2 Inv-loop μ-loop
-returns-2 c = table-bad _ (c .before .before .before .before .before .before .loop .inv .2 ∙ turn-bad _ _ _ _ (c .before .before .before .before .find .ensures .0) (c .before .before .before .before .before .loop-test .taken) (c .before .before .before .if1 .left) _ _ _ (c .before .read-line .ensures) (c .if2 .left))
+returns-2 c = table-bad _ (c .before .before .before .before .before .before .loop .inv .2 ∙ turn-bad _ _ _ _ (c .before .before .before .before .find .ensures .0)
+    (c .before .before .before .before .before .loop-test .taken) (c .before .before .before .if1 .left) _ _ _ (c .before .read-line .ensures) (c .if2 .left))
 
 add-seek : tie.Need-add-seek Inv-loop μ-loop
 add-seek c = omega arith
@@ -55,7 +56,10 @@ seek-requires : tie.Need-seek-requires Inv-loop μ-loop
 seek-requires c κs = search needs
 
 returns-3 : tie.Need-returns-3 Inv-loop μ-loop
-returns-3 c = table-bad _ (c .before .before .before .before .before .before .before .before .before .loop .inv .2 ∙ turn-twice _ _ _ _ (c .before .before .before .before .before .before .before .find .ensures .0) (c .before .before .before .before .before .before .before .before .loop-test .taken) (c .before .before .before .before .before .before .if1 .left) _ _ _ (c .before .before .before .before .read-line .ensures) (c .before .before .before .if2 .taken) _ _ _ (c .before .seek .ensures) (c .if3 .taken))
+returns-3 c = table-bad _ (c .before .before .before .before .before .before .before .before .before .loop .inv .2 ∙ turn-twice _ _ _ _
+    (c .before .before .before .before .before .before .before .find .ensures .0) (c .before .before .before .before .before .before .before .before .loop-test .taken)
+    (c .before .before .before .before .before .before .if1 .left) _ _ _ (c .before .before .before .before .read-line .ensures)
+    (c .before .before .before .if2 .taken) _ _ _ (c .before .seek .ensures) (c .if3 .taken))
 
 add-at : tie.Need-add-at Inv-loop μ-loop
 add-at c = omega arith
@@ -64,13 +68,25 @@ add-lines : tie.Need-add-lines Inv-loop μ-loop
 add-lines c = omega arith
 
 returns-4 : tie.Need-returns-4 Inv-loop μ-loop
-returns-4 c = table-bad _ (c .before .before .before .before .before .before .before .before .before .before .loop .inv .2 ∙ (turn-on _ _ _ _ (c .before .before .before .before .before .before .before .before .find .ensures .0) (c .before .before .before .before .before .before .before .before .before .loop-test .taken) (c .before .before .before .before .before .before .before .if1 .left) _ _ _ (c .before .before .before .before .before .read-line .ensures) (c .before .before .before .before .if2 .taken) _ _ _ (c .before .before .seek .ensures) (c .before .if3 .left) ∙ left-many _ _ (c .if4 .taken)))
+returns-4 c = table-bad _ (c .before .before .before .before .before .before .before .before .before .before .loop .inv .2 ∙
+    (turn-on _ _ _ _ (c .before .before .before .before .before .before .before .before .find .ensures .0)
+    (c .before .before .before .before .before .before .before .before .before .loop-test .taken)
+    (c .before .before .before .before .before .before .before .if1 .left) _ _ _ (c .before .before .before .before .before .read-line .ensures)
+    (c .before .before .before .before .if2 .taken) _ _ _ (c .before .before .seek .ensures) (c .before .if3 .left) ∙ left-many _ _ (c .if4 .taken)))
 
 loop-less : tie.Need-loop-less Inv-loop μ-loop
 loop-less c = omega arith
 
 loop-again : tie.Need-loop-again Inv-loop μ-loop
-loop-again c = (omega arith, omega arith, c .before .before .before .before .before .before .before .before .before .before .loop .inv .2 ∙ turn-on _ _ _ _ (c .before .before .before .before .before .before .before .before .find .ensures .0) (c .before .before .before .before .before .before .before .before .before .loop-test .taken) (c .before .before .before .before .before .before .before .if1 .left) _ _ _ (c .before .before .before .before .before .read-line .ensures) (c .before .before .before .before .if2 .taken) _ _ _ (c .before .before .seek .ensures) (c .before .if3 .left))
+loop-again c = (
+  omega arith,
+  omega arith,
+  c .before .before .before .before .before .before .before .before .before .before .loop .inv .2 ∙ turn-on _ _ _ _
+      (c .before .before .before .before .before .before .before .before .find .ensures .0)
+      (c .before .before .before .before .before .before .before .before .before .loop-test .taken)
+      (c .before .before .before .before .before .before .before .if1 .left) _ _ _ (c .before .before .before .before .before .read-line .ensures)
+      (c .before .before .before .before .if2 .taken) _ _ _ (c .before .before .seek .ensures) (c .before .if3 .left),
+)
 
 returns-5 : tie.Need-returns-5 Inv-loop μ-loop
 returns-5 c = table-bad _ (c .before .before .loop .inv .2 ∙ left-none _ _ _ (c .before .loop-test .left) (c .if5 .taken))

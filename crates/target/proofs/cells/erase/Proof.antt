@@ -36,13 +36,20 @@ loop-less : tie.Need-loop-less Inv-loop μ-loop
 loop-less c = omega arith
 
 loop-again : tie.Need-loop-again Inv-loop μ-loop
-loop-again c = (omega arith, rw length-set (c .before .loop .inv .1), c .before .loop .inv .2, overlay-more (c .before .before .args .first) (c .before .loop .i) (λ k. erased) (now (c .before .before .args .cells)) (c .before .loop .cells) erased (c .before .loop .inv .3) refl)
+loop-again c = (
+  omega arith,
+  rw length-set (c .before .loop .inv .1),
+  c .before .loop .inv .2,
+  overlay-more (c .before .before .args .first) (c .before .loop .i)
+      (λ k. erased) (now (c .before .before .args .cells)) (c .before .loop .cells) erased (c .before .loop .inv .3) refl,
+)
 
 same-length : tie.Need-same-length Inv-loop μ-loop
 same-length c = c .before .loop .inv .1
 
 returns : tie.Need-returns Inv-loop μ-loop
-returns c = let e : c .before .loop .i ≡ c .before .before .args .count = omega arith in c .before .loop .inv .3 ∙ ap (λ n. overlay (c .before .before .args .first) n (λ k. erased) (now (c .before .before .args .cells))) e
+returns c = let e : c .before .loop .i ≡ c .before .before .args .count = omega arith in c .before .loop .inv .3 ∙ ap
+    (λ n. overlay (c .before .before .args .first) n (λ k. erased) (now (c .before .before .args .cells))) e
 
 pub erase-spec : {M : Type 1} → statement M
 erase-spec =

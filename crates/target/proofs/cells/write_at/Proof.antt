@@ -1,12 +1,10 @@
 -- The counter's row, one word of configuration space, or nothing.
-use Prim.Native.Nat.{_%_, _<_}
-use mathlib.Core.Path.{sym, _∙_}
 use native.Mathlib.Omega.{arith}
-use native.Mathlib.Nat.{mod-lt}
-use denote.Ref.{now}
-use Rattle.device.specs.LawsRecord.{row}
-use Rattle.target.specs.LawsHits.{row-within, can-write-tail}
-use Rattle.target.specs.LawsCells.{begin-program, begin-protected, begin-between, begin-not, begin-one}
+use Rattle.device.specs.Memory.{protected}
+use Rattle.target.specs.Effects.{locked}
+use Rattle.target.specs.LawsChip.{sound-chip}
+use Rattle.target.specs.LawsHits.{set-within}
+use Rattle.target.specs.LawsCells.{some-row, latch-of, cell-low, cell-within, begin-locked, begin-program, begin-between, begin-other, begin-word}
 use borrow.Author.Needs.{needs}
 use Rattle.target.proofs.cells.write_at.Statement.{statement}
 use Rattle.target.proofs.cells.write_at.Tie as tie
@@ -27,58 +25,66 @@ same-length : tie.Need-same-length
 same-length c = search needs
 
 returns : tie.Need-returns
-returns c = sym (begin-protected (c .before .before .before .before .before .before .before .before .args .d) (c .before .before .before .before .before .before .before .before .pre .0) (c .before .before .before .before .before .before .before .before .args .at .0) (now (c .before .before .before .before .before .before .before .before .args .latches)) (now (c .before .before .before .before .before .before .before .before .args .cells)) (c .before .before .before .if1 .taken) (sym (c .before .is-protected .ensures) ∙ c .if2 .taken))
+unfolding locked protected
+returns c = search (begin-locked, sound-chip, needs)
 
 div-write-row : tie.Need-div-write-row
-div-write-row c = let v = row _ (c .before .before .before .before .before .before .before .before .pre .0 .row-is) in omega arith
+div-write-row c = search (some-row, needs)
 
 write-row-requires : tie.Need-write-row-requires
-write-row-requires c κs = let v = row _ (c .before .before .before .before .before .before .before .before .before .pre .0 .row-is) in let h = row-within (c .before .before .before .before .before .before .before .before .before .args .d) (c .before .before .before .before .before .before .before .before .before .pre .0) (c .before .before .before .before .before .before .before .before .before .args .at .0) (c .before .before .before .before .if1 .taken) in (omega arith, omega arith)
+write-row-requires c κs = let v = sound-chip (c .before .before .before .before .before .before .before .before .before .args .d)
+    (c .before .before .before .before .before .before .before .before .before .pre .0) in let h = set-within _ v
+    (c .before .before .before .before .before .before .before .before .before .args .at .0) (c .before .before .before .before .if1 .taken) in (v .carried, omega arith)
 
 same-length-2 : tie.Need-same-length-2
 same-length-2 c = search needs
 
 returns-2 : tie.Need-returns-2
-returns-2 c = c .before .before .write-row .ensures ∙ sym (begin-program (c .before .before .before .before .before .before .before .before .before .before .before .before .args .d) (c .before .before .before .before .before .before .before .before .before .before .before .before .pre .0) (c .before .before .before .before .before .before .before .before .before .before .before .before .args .at .0) (now (c .before .before .before .before .before .before .before .before .before .before .before .before .args .latches)) (now (c .before .before .before .before .before .before .before .before .before .before .before .before .args .cells)) (c .before .before .before .before .before .before .before .if1 .taken) (sym (c .before .before .before .before .before .is-protected .ensures) ∙ c .before .before .before .before .if2 .left))
+unfolding locked protected
+returns-2 c = search (begin-program, sound-chip, needs)
 
 returns-3 : tie.Need-returns-3
-returns-3 c = sym (begin-between (c .before .before .before .before .before .before .args .d) (c .before .before .before .before .before .before .pre .0) (c .before .before .before .before .before .before .args .at .0) (now (c .before .before .before .before .before .before .args .latches)) (now (c .before .before .before .before .before .before .args .cells)) (c .before .if1 .left) (c .if3 .taken))
+returns-3 c = search (begin-between, sound-chip, needs)
 
-can-write-requires : tie.Need-can-write-requires
-can-write-requires c κs = search needs
+cell-of-requires : tie.Need-cell-of-requires
+cell-of-requires c κs = search needs
 
-add-i : tie.Need-add-i
-add-i c = let h = can-write-tail _ (sym (c .before .can-write .ensures) ∙ c .if4 .taken) in omega arith
+programmable-requires : tie.Need-programmable-requires
+programmable-requires c κs = search needs
 
 mul-cells : tie.Need-mul-cells
-mul-cells c = let h = can-write-tail _ (sym (c .before .can-write .ensures) ∙ c .if4 .taken) in omega (arith, c .before .before .before .before .before .before .before .before .good)
+mul-cells c = let h = cell-low (c .before .before .before .before .before .before .before .before .before .before .args .d)
+    (c .before .before .before .before .before .before .before .before .before .before .pre .0) (c .before .before .cell-of .result) _ (c .before .programmable .ensures) (c .if4 .taken) in omega arith
 
 slice-read-cells : tie.Need-slice-read-cells
-slice-read-cells c = let h = can-write-tail _ (sym (c .before .before .can-write .ensures) ∙ c .before .if4 .taken) in omega arith
+slice-read-cells c = search (cell-within, needs)
 
 rem-cells : tie.Need-rem-cells
-rem-cells c = let v = row _ (c .before .before .before .before .before .before .before .before .before .pre .0 .row-is) in omega arith
+rem-cells c = search (some-row, needs)
 
 mul-cells-2 : tie.Need-mul-cells-2
-mul-cells-2 c = let v = row _ (c .before .before .before .before .before .before .before .before .before .pre .0 .row-is) in let m : c .before .before .before .before .before .before .before .before .before .args .at .0 % c .before .before .before .before .before .before .before .before .before .args .d .row < c .before .before .before .before .before .before .before .before .before .args .d .row = mod-lt _ (omega arith) in omega arith
+mul-cells-2 c = let h = latch-of _ (c .before .before .before .before .before .before .before .before .before .before .before .pre .0)
+    (c .before .before .before .before .before .before .before .before .before .before .before .args .at .0) in omega arith
 
 element-copy-out-cells : tie.Need-element-copy-out-cells
-element-copy-out-cells c = let v = row _ (c .before .before .before .before .before .before .before .before .before .pre .0 .row-is) in let m : c .before .before .before .before .before .before .before .before .before .args .at .0 % c .before .before .before .before .before .before .before .before .before .args .d .row < c .before .before .before .before .before .before .before .before .before .args .d .row = mod-lt _ (omega arith) in omega arith
+element-copy-out-cells c = search (latch-of, needs)
 
 mul-cells-3 : tie.Need-mul-cells-3
-mul-cells-3 c = let h = can-write-tail _ (sym (c .before .before .before .can-write .ensures) ∙ c .before .before .if4 .taken) in omega (arith, c .before .before .before .before .before .before .before .before .before .before .good)
+mul-cells-3 c = let h = cell-low (c .before .before .before .before .before .before .before .before .before .before .before .before .args .d)
+    (c .before .before .before .before .before .before .before .before .before .before .before .before .pre .0) (c .before .before .before .before .cell-of .result) _
+    (c .before .before .before .programmable .ensures) (c .before .before .if4 .taken) in omega arith
 
 slice-write-cells : tie.Need-slice-write-cells
-slice-write-cells c = let h = can-write-tail _ (sym (c .before .before .before .can-write .ensures) ∙ c .before .before .if4 .taken) in omega arith
+slice-write-cells c = search (cell-within, needs)
 
 same-length-3 : tie.Need-same-length-3
 same-length-3 c = search needs
 
 returns-4 : tie.Need-returns-4
-returns-4 c = sym (begin-one (c .before .before .before .before .before .before .before .before .before .before .args .d) (c .before .before .before .before .before .before .before .before .before .before .pre .0) (c .before .before .before .before .before .before .before .before .before .before .args .at .0) (now (c .before .before .before .before .before .before .before .before .before .before .args .latches)) (now (c .before .before .before .before .before .before .before .before .before .before .args .cells)) (c .before .before .before .before .if3 .left) (sym (c .before .before .before .can-write .ensures) ∙ c .before .before .if4 .taken))
+returns-4 c = search (begin-word, needs)
 
 returns-5 : tie.Need-returns-5
-returns-5 c = sym (begin-not (c .before .before .before .before .before .before .before .before .args .d) (c .before .before .before .before .before .before .before .before .pre .0) (c .before .before .before .before .before .before .before .before .args .at .0) (now (c .before .before .before .before .before .before .before .before .args .latches)) (now (c .before .before .before .before .before .before .before .before .args .cells)) (c .before .before .if3 .left) (sym (c .before .can-write .ensures) ∙ c .if4 .left))
+returns-5 c = search (begin-other, needs)
 
 pub write-at-spec : {M : Type 1} → statement M
 write-at-spec =
@@ -95,8 +101,8 @@ write-at-spec =
     same-length-2
     returns-2
     returns-3
-    can-write-requires
-    add-i
+    cell-of-requires
+    programmable-requires
     mul-cells
     slice-read-cells
     rem-cells

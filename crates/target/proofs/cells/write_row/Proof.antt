@@ -13,7 +13,8 @@ use Rattle.target.proofs.cells.write_row.Statement.{statement}
 use Rattle.target.proofs.cells.write_row.Tie as tie
 
 abbrev Inv-loop : tie.InvT-loop
-Inv-loop latches row number cells₀ first i₀ cells i = (i ≤ row) × (row ≤ 32) × (length cells ≡ length cells₀) × (number * row + row ≤ length cells₀) × (cells ≡ overlay (number * row) i (λ k. bitAnd (getD cells₀ k 0) (getD latches (k % row) 0)) cells₀)
+Inv-loop latches row number cells₀ first i₀ cells i = (i ≤ row) × (row ≤ 32) × (length cells ≡ length cells₀) × (number * row + row ≤ length cells₀) ×
+    (cells ≡ overlay (number * row) i (λ k. bitAnd (getD cells₀ k 0) (getD latches (k % row) 0)) cells₀)
 
 abbrev μ-loop : tie.MeasureT-loop
 μ-loop latches row number cells₀ first i₀ cells i = row - i
@@ -52,13 +53,24 @@ loop-less : tie.Need-loop-less Inv-loop μ-loop
 loop-less c = omega arith
 
 loop-again : tie.Need-loop-again Inv-loop μ-loop
-loop-again c = (omega arith, c .before .before .before .loop .inv .1, rw length-set (c .before .before .before .loop .inv .2), c .before .before .before .loop .inv .3, write-turn (now (c .before .before .before .before .args .latches)) (c .before .before .before .before .args .row) (c .before .before .before .before .args .number) (now (c .before .before .before .before .args .cells)) (c .before .before .before .loop .cells) (c .before .before .before .loop .i) (c .before .before .loop-test .taken) (c .before .before .before .loop .inv .4))
+loop-again c = (
+  omega arith,
+  c .before .before .before .loop .inv .1,
+  rw length-set
+      (c .before .before .before .loop .inv .2),
+  c .before .before .before .loop .inv .3,
+  write-turn (now (c .before .before .before .before .args .latches))
+      (c .before .before .before .before .args .row) (c .before .before .before .before .args .number) (now (c .before .before .before .before .args .cells))
+      (c .before .before .before .loop .cells) (c .before .before .before .loop .i) (c .before .before .loop-test .taken) (c .before .before .before .loop .inv .4),
+)
 
 same-length : tie.Need-same-length Inv-loop μ-loop
 same-length c = c .before .loop .inv .2
 
 returns : tie.Need-returns Inv-loop μ-loop
-returns c = let e : c .before .loop .i ≡ c .before .before .args .row = omega arith in c .before .loop .inv .4 ∙ ap (λ n. overlay (c .before .before .args .number * c .before .before .args .row) n (λ k. bitAnd (getD (now (c .before .before .args .cells)) k 0) (getD (now (c .before .before .args .latches)) (k % c .before .before .args .row) 0)) (now (c .before .before .args .cells))) e
+returns c = let e : c .before .loop .i ≡ c .before .before .args .row = omega arith in c .before .loop .inv .4 ∙ ap
+    (λ n. overlay (c .before .before .args .number * c .before .before .args .row) n
+    (λ k. bitAnd (getD (now (c .before .before .args .cells)) k 0) (getD (now (c .before .before .args .latches)) (k % c .before .before .args .row) 0)) (now (c .before .before .args .cells))) e
 
 pub write-row-spec : {M : Type 1} → statement M
 write-row-spec =

@@ -39,7 +39,12 @@ loop-less : tie.Need-loop-less Inv-loop μ-loop
 loop-less c = omega arith
 
 loop-again : tie.Need-loop-again Inv-loop μ-loop
-loop-again c = (omega arith, c .before .before .before .loop .inv .1, below-more (λ k. getD (now (c .before .before .before .before .before .args .latches)) k 0 < 0x4000) (c .before .before .before .loop .i) (c .before .before .before .loop .inv .2) (c .if1 .left))
+loop-again c = (
+  omega arith,
+  c .before .before .before .loop .inv .1,
+  below-more
+      (λ k. getD (now (c .before .before .before .before .before .args .latches)) k 0 < 0x4000) (c .before .before .before .loop .i) (c .before .before .before .loop .inv .2) (c .if1 .left),
+)
 
 returns-2 : tie.Need-returns-2 Inv-loop μ-loop
 returns-2 c = sym (latches-ok _ _ (λ k h. c .before .loop .inv .2 k (omega arith)))

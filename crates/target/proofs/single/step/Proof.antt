@@ -29,7 +29,8 @@ same-length c = search needs
 
 returns-2 : tie.Need-returns-2
 unfolding soundCells
-returns-2 c = steps-32-cells _ _ _ _ _ _ (ok-of-judged _ (sym (c .before .before .before .before .before .judge .ensures) ∙ c .before .before .before .before .if1 .left)) (sym (c .before .is-words .ensures) ∙ c .if2 .left)
+returns-2 c = steps-32-cells _ _ _ _ _ _ (ok-of-judged _
+    (sym (c .before .before .before .before .before .judge .ensures) ∙ c .before .before .before .before .if1 .left)) (sym (c .before .is-words .ensures) ∙ c .if2 .left)
 
 latches-ok-requires : tie.Need-latches-ok-requires
 latches-ok-requires c κs = rules-of-judged _ (sym (c .before .before .before .before .before .before .before .judge .ensures) ∙ c .before .before .before .before .before .before .if1 .left)
@@ -39,7 +40,10 @@ same-length-2 c = search needs
 
 returns-3 : tie.Need-returns-3
 unfolding soundCells
-returns-3 c = steps-32-latches _ _ _ _ _ _ (ok-of-judged _ (sym (c .before .before .before .before .before .before .before .before .before .judge .ensures) ∙ c .before .before .before .before .before .before .before .before .if1 .left)) (sym (c .before .before .before .before .before .is-words .ensures) ∙ c .before .before .before .before .if2 .taken) (sym (c .before .latches-ok .ensures) ∙ c .if3 .left)
+returns-3 c = steps-32-latches _ _ _ _ _ _ (ok-of-judged _
+    (sym (c .before .before .before .before .before .before .before .before .before .judge .ensures)
+    ∙ c .before .before .before .before .before .before .before .before .if1 .left))
+    (sym (c .before .before .before .before .before .is-words .ensures) ∙ c .before .before .before .before .if2 .taken) (sym (c .before .latches-ok .ensures) ∙ c .if3 .left)
 
 perform-requires : tie.Need-perform-requires
 perform-requires c κs = (rules-of-judged _ (sym (c .before .before .before .before .before .before .before .before .before .before .before .before .before .judge .ensures) ∙ c .before .before .before .before .before .before .before .before .before .before .before .before .if1 .left), (words-long _ _ (sym (c .before .before .before .before .before .before .before .before .before .is-words .ensures) ∙ c .before .before .before .before .before .before .before .before .if2 .taken), omega arith))
@@ -52,7 +56,8 @@ same-length-4 c = search needs
 
 returns-4 : tie.Need-returns-4
 unfolding soundCells
-returns-4 c = steps-on _ _ _ _ _ _ (ok-of-judged _ (sym (c .before .before .before .before .before .before .before .before .before .before .before .before .before .before .before .before .before .before .before .judge .ensures) ∙ c .before .before .before .before .before .before .before .before .before .before .before .before .before .before .before .before .before .before .if1 .left)) (sym (c .before .before .before .before .before .before .before .before .before .before .before .before .before .before .before .is-words .ensures) ∙ c .before .before .before .before .before .before .before .before .before .before .before .before .before .before .if2 .taken) (sym (c .before .before .before .before .before .before .before .before .before .before .before .latches-ok .ensures) ∙ c .before .before .before .before .before .before .before .before .before .before .if3 .taken) _ _ _ _ _ (c .before .before .before .before .before .perform .ensures)
+returns-4 c = steps-on _ _ _ _ _ _ (ok-of-judged _
+    (sym (c .before .before .before .before .before .before .before .before .before .before .before .before .before .before .before .before .before .before .before .judge .ensures) ∙ c .before .before .before .before .before .before .before .before .before .before .before .before .before .before .before .before .before .before .if1 .left)) (sym (c .before .before .before .before .before .before .before .before .before .before .before .before .before .before .before .is-words .ensures) ∙ c .before .before .before .before .before .before .before .before .before .before .before .before .before .before .if2 .taken) (sym (c .before .before .before .before .before .before .before .before .before .before .before .latches-ok .ensures) ∙ c .before .before .before .before .before .before .before .before .before .before .if3 .taken) _ _ _ _ _ (c .before .before .before .before .before .perform .ensures)
 
 pub step-spec : {M : Type 1} → statement M
 step-spec =

@@ -23,7 +23,7 @@ same-length-2 : tie.Need-same-length-2
 same-length-2 c = search needs
 
 returns : tie.Need-returns
-returns c = step-is _ _ _ _ _ _ _ _ (c .before .before .before .before .before .before .before .before .payload-at .ensures) _ _ _ _ _ (c .before .before .before .before .perform .ensures)
+returns c = step-is _ _ _ _ _ (c .before .before .before .before .before .before .before .before .payload-at .ensures) _ _ _ _ _ (c .before .before .before .before .perform .ensures)
 
 pub next-step-spec : {M : Type 1} → statement M
 next-step-spec =

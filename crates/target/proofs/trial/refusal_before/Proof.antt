@@ -28,11 +28,13 @@ returns-2 c = before-32 _ _ _ (ok-of-judged _ (sym (c .before .before .before .b
 
 returns-3 : tie.Need-returns-3
 unfolding soundCells
-returns-3 c = before-34 _ _ _ (ok-of-judged _ (sym (c .before .before .before .before .before .judge .ensures) ∙ c .before .before .before .before .if1 .left)) (sym (c .before .before .is-words .ensures) ∙ c .before .if2 .taken) (c .if3 .taken)
+returns-3 c = before-34 _ _ _ (ok-of-judged _ (sym (c .before .before .before .before .before .judge .ensures) ∙ c .before .before .before .before .if1 .left))
+    (sym (c .before .before .is-words .ensures) ∙ c .before .if2 .taken) (c .if3 .taken)
 
 returns-4 : tie.Need-returns-4
 unfolding soundCells
-returns-4 c = before-none _ _ _ (ok-of-judged _ (sym (c .before .before .before .before .before .judge .ensures) ∙ c .before .before .before .before .if1 .left)) (sym (c .before .before .is-words .ensures) ∙ c .before .if2 .taken) (c .if3 .left)
+returns-4 c = before-none _ _ _ (ok-of-judged _ (sym (c .before .before .before .before .before .judge .ensures) ∙ c .before .before .before .before .if1 .left))
+    (sym (c .before .before .is-words .ensures) ∙ c .before .if2 .taken) (c .if3 .left)
 
 pub refusal-before-spec : {M : Type 1} → statement M
 refusal-before-spec =

@@ -20,7 +20,8 @@ least-requires : tie.Need-least-requires
 least-requires c κs = search needs
 
 go-requires : tie.Need-go-requires
-go-requires c κs = let s = before-sound _ _ _ (sym (c .before .before .before .before .refusal-before .ensures) ∙ c .before .before .before .if1 .left) in (rules _ (s .0), (cells-long _ _ (s .1), rw (c .before .least .ensures) (enough _ _)))
+go-requires c κs = let s = before-sound _ _ _ (sym (c .before .before .before .before .refusal-before .ensures) ∙ c .before .before .before .if1 .left) in
+    (rules _ (s .0), (cells-long _ _ (s .1), rw (c .before .least .ensures) (enough _ _)))
 
 same-length-2 : tie.Need-same-length-2
 same-length-2 c = search needs
@@ -29,7 +30,9 @@ same-length-3 : tie.Need-same-length-3
 same-length-3 c = search needs
 
 returns-2 : tie.Need-returns-2
-returns-2 c = run-goes _ _ _ _ _ _ _ (c .before .before .before .before .before .before .before .before .before .refusal-before .ensures) (c .before .before .before .before .before .before .before .before .if1 .left) (c .before .before .before .before .before .before .least .ensures) _ _ _ (c .before .before .before .before .go .ensures)
+returns-2 c = run-goes _ _ _ _ _ _ _ (c .before .before .before .before .before .before .before .before .before .refusal-before .ensures)
+    (c .before .before .before .before .before .before .before .before .if1 .left) (c .before .before .before .before .before .before .least .ensures) _ _ _
+    (c .before .before .before .before .go .ensures)
 
 pub run-spec : {M : Type 1} → statement M
 run-spec =

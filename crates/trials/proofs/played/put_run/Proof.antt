@@ -2,7 +2,7 @@
 use mathlib.Core.Path.{sym}
 use native.Mathlib.Omega.{arith}
 use Rattle.print.specs.LawsPrint.{prints-as}
-use Rattle.trials.specs.LawsPlayed.{copy-room, cells-room, cells-part, cells-are, run-few, run-room, run-part, run-sound, run-stopped, run-whole}
+use Rattle.trials.specs.LawsPlayed.{copy-room, cells-room, cells-part, cells-are, steps-few, run-room, run-part, run-sound, run-stopped, run-whole}
 use borrow.Author.Needs.{needs}
 use Rattle.trials.proofs.played.put_run.Statement.{statement}
 use Rattle.trials.proofs.played.put_run.Tie as tie
@@ -20,10 +20,13 @@ add-count : tie.Need-add-count
 add-count c = search needs
 
 array-borrow-prefix-cells : tie.Need-array-borrow-prefix-cells
-array-borrow-prefix-cells c = cells-room (c .before .before .before .before .before .before .before .args .d) (c .before .before .before .before .before .before .before .pre .0) _ (c .before .before .before .before .before .before .before .pre .1) _ (c .before .before .copy .ensures)
+array-borrow-prefix-cells c = cells-room (c .before .before .before .before .before .before .before .args .d)
+    (c .before .before .before .before .before .before .before .pre .0) _ (c .before .before .before .before .before .before .before .pre .1) _ (c .before .before .copy .ensures)
 
 slice-aggregate-run : tie.Need-slice-aggregate-run
-slice-aggregate-run c = sym (cells-part (c .before .before .before .before .before .before .before .before .args .d) (c .before .before .before .before .before .before .before .before .pre .0) _ (c .before .before .before .before .before .before .before .before .pre .1) _ (c .before .before .before .copy .ensures))
+slice-aggregate-run c = sym (cells-part (c .before .before .before .before .before .before .before .before .args .d)
+    (c .before .before .before .before .before .before .before .before .pre .0) _ (c .before .before .before .before .before .before .before .before .pre .1) _
+    (c .before .before .before .copy .ensures))
 
 slice-aggregate-run-2 : tie.Need-slice-aggregate-run-2
 slice-aggregate-run-2 c = search needs
@@ -32,10 +35,10 @@ run-requires : tie.Need-run-requires
 run-requires c κs = search needs
 
 add-refusal : tie.Need-add-refusal
-add-refusal c = omega (arith, run-few _ _ _ _ _ _ _ _ (c .before .before .before .before .before .before .run .ensures))
+add-refusal c = omega (arith, steps-few _ _ _ _ _ _ _ _ (c .before .before .before .before .before .before .run .ensures))
 
 cast-refusal : tie.Need-cast-refusal
-cast-refusal c = omega (arith, run-few _ _ _ _ _ _ _ _ (c .before .before .before .before .before .before .run .ensures))
+cast-refusal c = omega (arith, steps-few _ _ _ _ _ _ _ _ (c .before .before .before .before .before .before .run .ensures))
 
 refusal-requires : tie.Need-refusal-requires
 refusal-requires c κs = search needs
@@ -47,7 +50,12 @@ returns : tie.Need-returns
 returns c = prints-as _ _ _ _ _ (run-stopped (c .before .before .before .before .before .before .before .before .before .before .before .before .before .before .before .before .before .before .before .args .d) _ (c .before .before .before .before .before .before .before .before .before .before .before .before .before .before .before .before .before .before .before .pre .1) _ _ (cells-are (c .before .before .before .before .before .before .before .before .before .before .before .before .before .before .before .before .before .before .before .args .d) (c .before .before .before .before .before .before .before .before .before .before .before .before .before .before .before .before .before .before .before .pre .0) _ (c .before .before .before .before .before .before .before .before .before .before .before .before .before .before .before .before .before .before .before .pre .1) _ (c .before .before .before .before .before .before .before .before .before .before .before .before .before .before .copy .ensures)) _ _ _ (c .before .before .before .before .before .before .before .before .before .run .ensures) (c .before .before .before .before .before .if1 .taken)) (c .before .before .refusal .ensures)
 
 array-share-prefix-cells : tie.Need-array-share-prefix-cells
-array-share-prefix-cells c = run-room (c .before .before .before .before .before .before .before .before .before .before .before .before .before .before .args .d) _ (c .before .before .before .before .before .before .before .before .before .before .before .before .before .before .pre .1) _ _ (cells-are (c .before .before .before .before .before .before .before .before .before .before .before .before .before .before .args .d) (c .before .before .before .before .before .before .before .before .before .before .before .before .before .before .pre .0) _ (c .before .before .before .before .before .before .before .before .before .before .before .before .before .before .pre .1) _ (c .before .before .before .before .before .before .before .before .before .copy .ensures)) _ _ _ (c .before .before .before .before .run .ensures) _
+array-share-prefix-cells c = run-room (c .before .before .before .before .before .before .before .before .before .before .before .before .before .before .args .d) _
+    (c .before .before .before .before .before .before .before .before .before .before .before .before .before .before .pre .1) _ _
+    (cells-are (c .before .before .before .before .before .before .before .before .before .before .before .before .before .before .args .d)
+    (c .before .before .before .before .before .before .before .before .before .before .before .before .before .before .pre .0) _
+    (c .before .before .before .before .before .before .before .before .before .before .before .before .before .before .pre .1) _
+    (c .before .before .before .before .before .before .before .before .before .copy .ensures)) _ _ _ (c .before .before .before .before .run .ensures) _
 
 slice-aggregate-put-sheet : tie.Need-slice-aggregate-put-sheet
 slice-aggregate-put-sheet c = sym (run-part (c .before .before .before .before .before .before .before .before .before .before .before .before .before .before .before .args .d) _ (c .before .before .before .before .before .before .before .before .before .before .before .before .before .before .before .pre .1) _ _ (cells-are (c .before .before .before .before .before .before .before .before .before .before .before .before .before .before .before .args .d) (c .before .before .before .before .before .before .before .before .before .before .before .before .before .before .before .pre .0) _ (c .before .before .before .before .before .before .before .before .before .before .before .before .before .before .before .pre .1) _ (c .before .before .before .before .before .before .before .before .before .before .copy .ensures)) _ _ _ (c .before .before .before .before .before .run .ensures) _)

@@ -17,7 +17,8 @@ add-count : tie.Need-add-count
 add-count c = search needs
 
 slice-aggregate-write-sheet : tie.Need-slice-aggregate-write-sheet
-slice-aggregate-write-sheet c = sym (length-take-le _ _ (sheet-part (c .before .before .before .before .args .d) (c .before .before .before .before .pre .0) _ (c .before .before .before .before .pre .1)))
+slice-aggregate-write-sheet c = sym (length-take-le _ _
+    (sheet-part (c .before .before .before .before .args .d) (c .before .before .before .before .pre .0) _ (c .before .before .before .before .pre .1)))
 
 slice-aggregate-write-sheet-2 : tie.Need-slice-aggregate-write-sheet-2
 slice-aggregate-write-sheet-2 c = search needs
@@ -26,7 +27,12 @@ write-sheet-requires : tie.Need-write-sheet-requires
 write-sheet-requires c κs = search needs
 
 array-share-prefix-sheet : tie.Need-array-share-prefix-sheet
-array-share-prefix-sheet c = omega (arith, sheet-short (c .before .before .before .before .before .before .before .before .args .d) (c .before .before .before .before .before .before .before .before .pre .0) _ (c .before .before .before .before .before .before .before .before .pre .1) _ (length-replicate {A = ℕ} 46135 0) _ (c .before .before .write-sheet .ensures .0))
+array-share-prefix-sheet c = omega (
+  arith,
+  sheet-short (c .before .before .before .before .before .before .before .before .args .d)
+      (c .before .before .before .before .before .before .before .before .pre .0) _ (c .before .before .before .before .before .before .before .before .pre .1) _
+      (length-replicate {A = ℕ} 46135 0) _ (c .before .before .write-sheet .ensures .0),
+)
 
 slice-aggregate-text : tie.Need-slice-aggregate-text
 slice-aggregate-text c = sym (length-take-le _ _ (array-share-prefix-sheet (c .before)))
@@ -38,7 +44,10 @@ same-length : tie.Need-same-length
 same-length c = search needs
 
 returns : tie.Need-returns
-returns c = prints-as _ _ _ _ _ (sheet-front (c .before .before .before .before .before .before .before .before .before .before .before .before .args .d) (c .before .before .before .before .before .before .before .before .before .before .before .before .pre .0) _ (c .before .before .before .before .before .before .before .before .before .before .before .before .pre .1) _ (length-replicate {A = ℕ} 46135 0) _ (c .before .before .before .before .before .before .write-sheet .ensures .0) _ (c .before .before .before .before .before .before .write-sheet .ensures .1)) (c .before .before .text .ensures)
+returns c = prints-as _ _ _ _ _ (sheet-front (c .before .before .before .before .before .before .before .before .before .before .before .before .args .d)
+    (c .before .before .before .before .before .before .before .before .before .before .before .before .pre .0) _
+    (c .before .before .before .before .before .before .before .before .before .before .before .before .pre .1) _ (length-replicate {A = ℕ} 46135 0) _
+    (c .before .before .before .before .before .before .write-sheet .ensures .0) _ (c .before .before .before .before .before .before .write-sheet .ensures .1)) (c .before .before .text .ensures)
 
 pub put-sheet-spec : {M : Type 1} → statement M
 put-sheet-spec =

@@ -24,7 +24,8 @@ capital-word-requires : tie.Need-capital-word-requires
 capital-word-requires c κs = search needs
 
 returns-4 : tie.Need-returns-4
-returns-4 c = step-judged _ (c .before .before .before .before .before .if1 .left) _ (c .before .before .before .before .capital-byte .ensures) (omega arith) (c .before .if3 .left) _ (c .capital-word .ensures)
+returns-4 c = step-judged _ (c .before .before .before .before .before .if1 .left) _ (c .before .before .before .before .capital-byte .ensures) (omega arith)
+    (c .before .if3 .left) _ (c .capital-word .ensures)
 
 pub is-step-spec : {M : Type 1} → statement M
 is-step-spec =

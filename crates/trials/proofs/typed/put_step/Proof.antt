@@ -39,7 +39,10 @@ same-length : tie.Need-same-length
 same-length c = search needs
 
 returns : tie.Need-returns
-returns c = step-put _ _ _ _ (c .before .before .before .before .before .before .before .before .before .before .before .before .before .capital-byte .ensures) (c .before .before .before .before .before .before .before .before .before .before .before .before .capital-word .ensures) _ _ _ _ (c .before .before .before .before .before .before .before .before .before .before .put .ensures) (c .before .before .before .before .before .before .put2 .ensures) (c .before .before .put3 .ensures)
+returns c = step-put _ _ _ _ (c .before .before .before .before .before .before .before .before .before .before .before .before .before .capital-byte .ensures)
+    (c .before .before .before .before .before .before .before .before .before .before .before .before .capital-word .ensures) _ _ _ _
+    (c .before .before .before .before .before .before .before .before .before .before .put .ensures) (c .before .before .before .before .before .before .put2 .ensures)
+    (c .before .before .put3 .ensures)
 
 pub put-step-spec : {M : Type 1} → statement M
 put-step-spec =

@@ -48,7 +48,8 @@ same-length-2 : tie.Need-same-length-2 Inv-loop μ-loop
 same-length-2 c = c .before .before .before .before .before .before .loop .inv .kept
 
 returns-2 : tie.Need-returns-2 Inv-loop μ-loop
-returns-2 c = typing-stop _ _ _ _ _ (c .before .before .before .before .before .before .loop .inv) (c .before .before .before .before .before .loop-test .taken) _ (c .before .before .before .before .find .ensures .0) (c .before .before .before .before .find .ensures .1) _ (c .before .is-step .ensures) (c .if2 .left)
+returns-2 c = typing-stop _ _ _ _ _ (c .before .before .before .before .before .before .loop .inv) (c .before .before .before .before .before .loop-test .taken) _
+    (c .before .before .before .before .find .ensures .0) (c .before .before .before .before .find .ensures .1) _ (c .before .is-step .ensures) (c .if2 .left)
 
 sub-put-step : tie.Need-sub-put-step Inv-loop μ-loop
 sub-put-step c = omega arith
@@ -75,7 +76,11 @@ loop-less : tie.Need-loop-less Inv-loop μ-loop
 loop-less c = omega arith
 
 loop-again : tie.Need-loop-again Inv-loop μ-loop
-loop-again c = typing-on _ _ _ _ _ (c .before .before .before .before .before .before .before .before .before .before .before .loop .inv) (c .before .before .before .before .before .before .before .before .before .before .loop-test .taken) _ (c .before .before .before .before .before .before .before .before .before .find .ensures .0) (c .before .before .before .before .before .before .before .before .before .find .ensures .1) (omega arith) _ (c .before .before .before .before .before .before .is-step .ensures) (c .before .before .before .before .before .if2 .taken) _ (c .before .before .put-step .ensures)
+loop-again c = typing-on _ _ _ _ _ (c .before .before .before .before .before .before .before .before .before .before .before .loop .inv)
+    (c .before .before .before .before .before .before .before .before .before .before .loop-test .taken) _
+    (c .before .before .before .before .before .before .before .before .before .find .ensures .0)
+    (c .before .before .before .before .before .before .before .before .before .find .ensures .1) (omega arith) _
+    (c .before .before .before .before .before .before .is-step .ensures) (c .before .before .before .before .before .if2 .taken) _ (c .before .before .put-step .ensures)
 
 same-length-3 : tie.Need-same-length-3 Inv-loop μ-loop
 same-length-3 c = c .before .loop .inv .kept

@@ -40,7 +40,12 @@ loop-less : tie.Need-loop-less Inv-loop μ-loop
 loop-less c = omega arith
 
 loop-again : tie.Need-loop-again Inv-loop μ-loop
-loop-again c = (omega arith, c .before .before .before .loop .inv .1, below-more (λ k. getD (now (c .before .before .before .before .before .args .l)) k 0 < 0x4000) (c .before .before .before .loop .i) (c .before .before .before .loop .inv .2) (c .if2 .left))
+loop-again c = (
+  omega arith,
+  c .before .before .before .loop .inv .1,
+  below-more (λ k. getD (now (c .before .before .before .before .before .args .l)) k 0 < 0x4000)
+      (c .before .before .before .loop .i) (c .before .before .before .loop .inv .2) (c .if2 .left),
+)
 
 returns-3 : tie.Need-returns-3 Inv-loop μ-loop
 returns-3 c = sym (words-of _ _ (c .before .loop .inv .1) (λ k h. c .before .loop .inv .2 k (omega arith)))

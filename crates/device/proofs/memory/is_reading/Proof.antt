@@ -1,8 +1,8 @@
 -- A reading is a list of P+9 words.
 use Rattle.device.specs.Memory.{readingOk}
 use borrow.Author.Needs.{needs}
-use Rattle.judge.proofs.reading.is_reading.Statement.{statement}
-use Rattle.judge.proofs.reading.is_reading.Tie as tie
+use Rattle.device.proofs.memory.is_reading.Statement.{statement}
+use Rattle.device.proofs.memory.is_reading.Tie as tie
 
 add-is-words : tie.Need-add-is-words
 add-is-words c = search needs
