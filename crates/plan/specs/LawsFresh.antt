@@ -7,13 +7,11 @@ use mathlib.Core.List.{List, [], _∷_}
 use lib.ListN.{length, getD}
 use borrow.Author.Tests.{lt-ltb}
 use lib.Dec.{ltb}
-use Rattle.words.specs.Choice.{pick}
 use Rattle.words.specs.Word.{erased}
 use Rattle.words.specs.LawsChoice.{pick-true, true-not-false}
 use Rattle.words.specs.LawsWord.{words-long, words-each}
 use Rattle.device.specs.declared.Device.{Device}
-use Rattle.device.specs.Record.{deviceOk, idFits}
-use Rattle.device.specs.Memory.{cellsTail, zeroBit, imageOk}
+use Rattle.device.specs.Memory.{cellsTail, zeroBit}
 use Rattle.device.specs.LawsRecord.{Rules, rules}
 use Rattle.target.specs.Chip.{Chip, chipOf}
 use Rattle.target.specs.Effects.{locked, edit, bulkErased}
@@ -39,6 +37,7 @@ use Rattle.plan.specs.Answers.{freshNumber}
 use Rattle.plan.specs.Demands.{programmed}
 use Rattle.plan.specs.LawsWanted.{known-fits, wanted-fits, writes-only}
 use Rattle.plan.specs.LawsDemands.{nothing-known}
+use Rattle.plan.specs.LawsAccepted.{AcceptedFresh, accepted-fresh}
 use Rattle.plan.specs.LawsFits.{fits-body}
 use Rattle.plan.specs.LawsSafe.{SoundTask, Kept, spoken, wiped, wiped-program, wiped-past, sound-cells}
 use Rattle.plan.specs.LawsSafeSteps.{At, Free, Any, free-at, enters, safe-reset, safe-configuration}
@@ -185,23 +184,7 @@ module _ (chip : Chip) (sound : SoundChip chip) (b : Burning chip) (word old : �
       stream : List Order
       stream = LoadConfiguration erased ∷ BulkErase ∷ ResetAddress ∷ bodyOf chip task
 
--- ---- this family: what no refusal tells
-
-pub record AcceptedFresh (d : Device) (image : List ℕ) : Type 0 where
-  pub device : deviceOk d ≡ true
-  pub image-sound : imageOk (d .words) image ≡ true
-
-pub accepted-fresh : (d : Device) (image : List ℕ) (idWord : ℕ) → freshNumber d image idWord ≡ 0 → AcceptedFresh d image
-unfolding freshNumber pick
-accepted-fresh d image idWord e = by (deviceOk d) refl (imageOk (d .words) image) refl (idFits d idWord) e
-  where
-    by : (a : Bool) → deviceOk d ≡ a → (b : Bool) → imageOk (d .words) image ≡ b → (o : Bool) → pick {A = ℕ} a (pick b (pick o 0 22) 20) 13 ≡ 0 → AcceptedFresh d image
-    by false ea b eb o z = absurd (omega arith)
-    by true ea false eb o z = absurd (omega arith)
-    by true ea true eb false z = absurd (omega arith)
-    by true ea true eb true z = record { device = ea; image-sound = eb }
-
--- ---- the theorem
+-- ---- this family
 
 module _ (d : Device) (image : List ℕ) (idWord : ℕ) (cells : List ℕ) (e : freshNumber d image idWord ≡ 0) (s : soundCells (chipOf d) cells ≡ true) where
   a : AcceptedFresh d image

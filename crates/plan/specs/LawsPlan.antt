@@ -1,19 +1,18 @@
 -- The promise of the three planners, and the ways to keep it: a refusal, a buffer that is too short, a stream.
 use Prim.Native.Nat.{ℕ, _+_, _*_, _≤_, _<_}
 use native.Mathlib.Omega.{arith}
-use mathlib.Core.Path.{_≡_, refl, sym, ap, _∙_}
+use mathlib.Core.Path.{_≡_, sym, ap, _∙_}
 use mathlib.Core.Bool.{Bool, true, false}
 use mathlib.Core.List.{List}
 use lib.Dec.{leb, eqb}
 use lib.ListN.{length, getD}
 use lib.Seq.{sets}
 use borrow.Author.Tests.{eq-eqb, ne-eqb, le-leb, lt-leb}
-use Rattle.words.specs.Choice.{pick, unless}
+use Rattle.words.specs.Choice.{pick}
 use Rattle.words.specs.LawsChoice.{pick-true, pick-false}
-use Rattle.words.specs.LawsWord.{words-long}
 use Rattle.device.specs.declared.Device.{Device}
 use Rattle.device.specs.Record.{deviceOk, idFits, recordNumber}
-use Rattle.device.specs.Memory.{readingTail, deviceId, imageOk, readingOk, protected}
+use Rattle.device.specs.Memory.{deviceId, imageOk, readingOk, protected}
 use Rattle.device.specs.LawsRecord.{Rules, ok-of-judged, rules-of-judged, bad-of-judged}
 use Rattle.target.specs.declared.Order.{Order}
 use Rattle.target.specs.Stream.{bytesOf}
@@ -82,10 +81,6 @@ module _ (d : Device) (n : ℕ) (judged : n ≡ recordNumber d) where
 
 -- ---- refusals of an update, in the code's order
 
-pub reading-long : (words : ℕ) (reading : List ℕ) → readingOk words reading ≡ true → length reading ≡ words + readingTail
-unfolding readingOk
-reading-long words reading e = words-long (words + readingTail) reading e
-
 -- each with what the calls before it answered: the record's number, and the tests a, b, i, p and q
 module _ (d : Device) (image reading : List ℕ) (n : ℕ) (judged : n ≡ recordNumber d) where
   pub update-13 : (n ≡ 0 → ⊥) → 13 ≡ updateNumber d image reading
@@ -121,25 +116,6 @@ module _ (d : Device) (image reading : List ℕ) (n : ℕ) (judged : n ≡ recor
             unfolding updateNumber pick
             update-0 t = rw (judged-ok d n judged z, ← is-image, image-ok, ← is-reading, reading-ok, ← id-fits, id-ok, ← is-protected, not-protected, ← config-is, t)
 
--- what an update that is not refused goes by
-pub record Sound (d : Device) (image reading : List ℕ) : Type 0 where
-  pub device : deviceOk d ≡ true
-  pub image-is : imageOk (d .words) image ≡ true
-  pub reading-is : readingOk (d .words) reading ≡ true
-
-passed : (a b c : Bool) (x : ℕ) → unless a 13 (unless b 20 (unless c 21 x)) ≡ 0 → (a ≡ true) × (b ≡ true) × (c ≡ true)
-unfolding pick
-passed true true true x z = (refl, refl, refl)
-passed true true false x z = absurd (omega arith)
-passed true false c x z = absurd (omega arith)
-passed false b c x z = absurd (omega arith)
-
-pub update-sound : (d : Device) (image reading : List ℕ) (n : ℕ) → n ≡ updateNumber d image reading → n ≡ 0 → Sound d image reading
-unfolding updateNumber
-update-sound d image reading n e z =
-    let t = passed (deviceOk d) (imageOk (d .words) image) (readingOk (d .words) reading) _ (sym e ∙ z) in
-    record { device = t .0; image-is = t .1; reading-is = t .2 }
-
 -- both configuration words
 module _ (d : Device) (image reading : List ℕ) (a : ℕ) (p : a ≡ wanted d image reading (d .words + 7)) (r : Bool) (e : r ≡ onlyClears a (getD reading (d .words + 7) 0)) where
   first-is : r ≡ onlyClears (wanted d image reading (d .words + 7)) (getD reading (d .words + 7) 0)
@@ -173,11 +149,3 @@ module _ (d : Device) (image : List ℕ) (idWord n : ℕ) (judged : n ≡ record
       pub fresh-0 : i ≡ true → 0 ≡ freshNumber d image idWord
       unfolding freshNumber pick
       fresh-0 t = rw (judged-ok d n judged z, ← is-image, image-ok, ← id-fits, t)
-
-module _ (d : Device) (image : List ℕ) (idWord : ℕ) where
-  pub fresh-sound : (n : ℕ) → n ≡ freshNumber d image idWord → n ≡ 0 → (deviceOk d ≡ true) × (imageOk (d .words) image ≡ true)
-  unfolding freshNumber
-  fresh-sound n e z = both-passed (deviceOk d) (imageOk (d .words) image) _ (sym e ∙ z)
-    where
-      both-passed : (a b : Bool) (x : ℕ) → unless a 13 (unless b 20 x) ≡ 0 → (a ≡ true) × (b ≡ true)
-      both-passed a b x h = let t = passed a b true x (rw (pick-true true x 21 refl) h) in (t .0, t .1)

@@ -20,7 +20,7 @@ use Rattle.target.specs.Cut.{Torn}
 use Rattle.target.specs.LawsChip.{SoundChip, Burning}
 use Rattle.words.specs.LawsTests.{by-test, by-lt, fails}
 use Rattle.target.specs.LawsTorn.{torn-hit, torn-miss, torn-fits}
-use Rattle.target.specs.LawsBlocks.{in-program, past-program}
+use Rattle.target.specs.LawsHits.{in-program, not-program}
 use Rattle.plan.specs.Steps.{Task}
 
 -- ---- what a task speaks of
@@ -40,7 +40,7 @@ module _ (chip : Chip) (t : Task) (i : ℕ) where
 
   pub spoken-past : chip .words ≤ i → spoken chip t i ≡ t .writes (i - chip .words)
   unfolding spoken
-  spoken-past h = pick-false (inProgram chip i) _ _ (past-program chip i h)
+  spoken-past h = pick-false (inProgram chip i) _ _ (not-program chip i h)
 
   pub wiped-program : i < chip .words → wiped chip t i ≡ t .eraseRow (i / chip .row)
   unfolding wiped
@@ -48,7 +48,7 @@ module _ (chip : Chip) (t : Task) (i : ℕ) where
 
   pub wiped-past : chip .words ≤ i → wiped chip t i ≡ (t .eraseIds && ltb (i - chip .words) (chip .ids))
   unfolding wiped
-  wiped-past h = pick-false (inProgram chip i) _ _ (past-program chip i h)
+  wiped-past h = pick-false (inProgram chip i) _ _ (not-program chip i h)
 
 module _ (chip : Chip) (t : Task) (k : ℕ) where
   pub spoken-word : spoken chip t (chip .words + k) ≡ t .writes k

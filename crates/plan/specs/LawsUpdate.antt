@@ -2,20 +2,18 @@
 use Prim.Native.Nat.{ℕ, _+_, _-_, _/_, _<_}
 use native.Mathlib.Omega.{arith}
 use mathlib.Core.Path.{_≡_, refl, sym, subst, _∙_}
-use mathlib.Core.Bool.{Bool, true, false, _&&_, not}
+use mathlib.Core.Bool.{Bool, true, false, _&&_}
 use mathlib.Core.Logic.{_⊎_, inl, inr, ⊎-elim}
 use mathlib.Core.List.{List, _∷_}
 use lib.Dec.{ltb}
 use lib.Bits.{bitAnd}
 use lib.ListN.{length, getD}
 use borrow.Author.Tests.{lt-ltb, ltb-true, eqb-true}
-use Rattle.words.specs.Choice.{pick}
 use Rattle.words.specs.Word.{Contains}
 use Rattle.words.specs.LawsChoice.{first-holds, second-holds, both, true-not-false}
 use Rattle.words.specs.LawsWord.{words-long, words-each}
 use Rattle.device.specs.declared.Device.{Device}
-use Rattle.device.specs.Record.{deviceOk, idFits}
-use Rattle.device.specs.Memory.{readingTail, cellsTail, deviceId, cpWord, isConfig, imageOk, readingOk, protected}
+use Rattle.device.specs.Memory.{readingTail, cellsTail, cpWord, isConfig, protected}
 use Rattle.device.specs.LawsRecord.{Rules, rules}
 use Rattle.device.specs.LawsMemory.{reading-long, reading-each, protected-same, config-range}
 use Rattle.target.specs.Chip.{Chip, chipOf}
@@ -30,7 +28,7 @@ use Rattle.target.specs.LawsChip.{SoundChip, Burning, sound-chip, burning}
 use Rattle.target.specs.LawsCrash.{safe-weaken}
 use Rattle.target.specs.LawsBoard.{chip-recovers-to}
 use Rattle.target.specs.LawsBlocks.{bulk-within}
-use Rattle.words.specs.LawsTests.{by-lt, by-eq, fails, not-holds}
+use Rattle.words.specs.LawsTests.{by-lt, by-eq, fails}
 use Rattle.target.specs.declared.Order.{Order}
 use Rattle.target.specs.declared.Order.the-variants.{ResetAddress}
 use Rattle.plan.specs.Wanted.{known, wanted, idDiffers, configWrites}
@@ -38,6 +36,7 @@ use Rattle.plan.specs.Steps.{Task, taskOf, bodyOf, updateTask, updateSte
 use Rattle.plan.specs.Answers.{onlyClears, configOk, updateNumber}
 use Rattle.plan.specs.Demands.{programmed}
 use Rattle.plan.specs.LawsWanted.{known-inside, known-fits, wanted-fits, id-same, writes-only, writes-all}
+use Rattle.plan.specs.LawsAccepted.{Accepted, accepted}
 use Rattle.plan.specs.LawsFits.{fits-body}
 use Rattle.plan.specs.LawsSafe.{SoundTask, Kept, spoken, wiped, spoken-past, spoken-within, wiped-program, wiped-past, sound-cells}
 use Rattle.plan.specs.LawsSafeSteps.{Free, free-at, enters, safe-reset}
@@ -135,32 +134,7 @@ module _ (chip : Chip) (sound : SoundChip chip) (b : Burning chip) (word old : �
       (λ words c k. free-at chip 0 (Kept chip b task first) _ (enters chip words (Kept chip b task first) c k))
       (λ c k. takes (ResetAddress ∷ bodyOf chip task) c (sound-cells chip c (k .long) (k .fits))) (λ words x e. e) update-first
 
--- ---- this family: what no refusal tells
-
-pub record Accepted (d : Device) (image reading : List ℕ) : Type 0 where
-  pub device : deviceOk d ≡ true
-  pub image-sound : imageOk (d .words) image ≡ true
-  pub reading-sound : readingOk (d .words) reading ≡ true
-  pub unprotected : protected (d .words) reading ≡ false
-  pub config : configOk d image reading ≡ true
-
-pub accepted : (d : Device) (image reading : List ℕ) → updateNumber d image reading ≡ 0 → Accepted d image reading
-unfolding updateNumber pick
-accepted d image reading e =
-    by (deviceOk d) refl (imageOk (d .words) image) refl (readingOk (d .words) reading) refl (idFits d (getD reading (d .words + deviceId) 0)) (not (protected (d .words) reading)) refl
-    (configOk d image reading) refl e
-  where
-    by : (a : Bool) → deviceOk d ≡ a → (b : Bool) → imageOk (d .words) image ≡ b → (c : Bool) → readingOk (d .words) reading ≡ c → (o : Bool)
-        → (p : Bool) → not (protected (d .words) reading) ≡ p → (q : Bool) → configOk d image reading ≡ q
-        → pick {A = ℕ} a (pick b (pick c (pick o (pick p (pick q 0 24) 23) 22) 21) 20) 13 ≡ 0 → Accepted d image reading
-    by false ea b eb c ec o p ep q eq z = absurd (omega arith)
-    by true ea false eb c ec o p ep q eq z = absurd (omega arith)
-    by true ea true eb false ec o p ep q eq z = absurd (omega arith)
-    by true ea true eb true ec false p ep q eq z = absurd (omega arith)
-    by true ea true eb true ec true false ep q eq z = absurd (omega arith)
-    by true ea true eb true ec true true ep false eq z = absurd (omega arith)
-    by true ea true eb true ec true true ep true eq z =
-        record { device = ea; image-sound = eb; reading-sound = ec; unprotected = not-holds (protected (d .words) reading) ep; config = eq }
+-- ---- this family
 
 -- configuration words are words 7 and 8
 config-two : (k : ℕ) → isConfig k ≡ true → (k ≡ 7) ⊎ (k ≡ 8)

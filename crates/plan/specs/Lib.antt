@@ -5,6 +5,7 @@ pub mod Answers
 pub mod Demands
 pub mod LawsSome
 pub mod LawsWanted
+pub mod LawsAccepted
 pub mod LawsPlanOrders
 pub mod LawsPlanWrote
 pub mod LawsPlanSteps

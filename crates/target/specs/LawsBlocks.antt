@@ -7,26 +7,19 @@ use mathlib.Core.Logic.{_⊎_, inl, inr, ⊎-elim}
 use mathlib.Core.List.{List}
 use lib.Dec.{leb, eqb}
 use lib.ListN.{getD}
-use borrow.Author.Tests.{lt-ltb, le-ltb, le-leb, eq-eqb, ltb-true, leb-true, eqb-true}
+use borrow.Author.Tests.{le-leb, eq-eqb, ltb-true, leb-true, eqb-true}
 use Rattle.words.specs.Lists.{inRange}
 use Rattle.words.specs.LawsChoice.{pick-true, pick-false, first-holds, second-holds, true-not-false}
 use Rattle.words.specs.LawsLists.{in-range, below-range, above-range}
 use Rattle.target.specs.Chip.{Chip}
 use Rattle.target.specs.Effects.{locked, inProgram, idCell, configCell, atErase, rowErased, bulkErased, beginWritten, latchOf, burnt}
 use Rattle.target.specs.LawsChip.{SoundChip}
+use Rattle.target.specs.LawsHits.{in-program, not-program}
 use Rattle.words.specs.LawsTests.{by-lt, not-holds, three-hold, all-three, or-cases, or-left, or-right}
 
 -- ---- places
 
 module _ (chip : Chip) (a : ℕ) where
-  pub in-program : a < chip .words → inProgram chip a ≡ true
-  unfolding inProgram
-  in-program h = lt-ltb a (chip .words) h
-
-  pub past-program : chip .words ≤ a → inProgram chip a ≡ false
-  unfolding inProgram
-  past-program h = le-ltb a (chip .words) h
-
   pub program-lt : inProgram chip a ≡ true → a < chip .words
   unfolding inProgram
   program-lt e = ltb-true a (chip .words) e
@@ -115,7 +108,7 @@ module _ (chip : Chip) (a : ℕ) (cells : List ℕ) (i : ℕ) where
 
   burnt-past : chip .words ≤ a → (latches : List ℕ) → burnt chip a latches cells i ≡ chip .burn i (getD cells i 0) (getD latches (a % chip .group) 0)
   unfolding burnt latchOf
-  burnt-past h latches = ap (λ n. chip .burn i (getD cells i 0) (getD latches (n % chip .group) 0)) (pick-false (inProgram chip a) i a (past-program chip a h))
+  burnt-past h latches = ap (λ n. chip .burn i (getD cells i 0) (getD latches (n % chip .group) 0)) (pick-false (inProgram chip a) i a (not-program chip a h))
 
 module _ (chip : Chip) (sound : SoundChip chip) where
   at-base : atErase chip (chip .base) ≡ true
@@ -183,7 +176,7 @@ module _ (chip : Chip) (sound : SoundChip chip) where
 
     pub bulk-config : chip .words ≤ i → chip .isConfig (i - chip .words) ≡ true → bulkErased chip (chip .base) i ≡ true
     unfolding bulkErased configCell
-    bulk-config p e = rw (past-program chip i p, le-leb (chip .words) i p, e)
+    bulk-config p e = rw (not-program chip i p, le-leb (chip .words) i p, e)
 
     config-of : configCell chip i ≡ true → chip .isConfig (i - chip .words) ≡ true
     unfolding configCell
@@ -193,7 +186,7 @@ module _ (chip : Chip) (sound : SoundChip chip) where
     unfolding bulkErased
     bulk-cases e h =
         ⊎-elim
-        (λ p. ⊎-elim (λ q. absurd (true-not-false q (past-program chip i h))) (λ q. inr (config-of q)) (or-cases (inProgram chip i) (configCell chip i) p))
+        (λ p. ⊎-elim (λ q. absurd (true-not-false q (not-program chip i h))) (λ q. inr (config-of q)) (or-cases (inProgram chip i) (configCell chip i) p))
         (λ p. inl (id-in chip i (second-holds (atErase chip (chip .base)) (idCell chip i) p) .1)) (or-cases (inProgram chip i || configCell chip i) atId e)
 
     pub bulk-within : bulkErased chip (chip .base) i ≡ true → i < chip .words + chip .readingTail

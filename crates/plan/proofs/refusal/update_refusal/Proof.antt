@@ -1,8 +1,8 @@
 -- One law for each refusal.
 use native.Mathlib.Omega.{arith}
 use mathlib.Core.Path.{sym, _∙_}
-use Rattle.device.specs.LawsMemory.{image-long}
-use Rattle.plan.specs.LawsPlan.{update-13, update-20, update-21, update-22, update-23, update-24, update-0, reading-long}
+use Rattle.device.specs.LawsMemory.{image-long, reading-long}
+use Rattle.plan.specs.LawsPlan.{update-13, update-20, update-21, update-22, update-23, update-24, update-0}
 use borrow.Author.Needs.{needs}
 use Rattle.plan.proofs.refusal.update_refusal.Statement.{statement}
 use Rattle.plan.proofs.refusal.update_refusal.Tie as tie
