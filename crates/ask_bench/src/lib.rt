@@ -9,12 +9,12 @@ use ask::room;
 // The end of the answer to a request on a program's text.
 pub fn answer(name: &[u8], line: &[u8], at: usize, a: &mut [u8], out: &mut [u8]) -> usize {
     let which = name::place(
-        b"bench.checksum bench.readback bench.dump bench.verify bench.update bench.fresh bench.trial",
+        b"bench.checksum bench.readback bench.dump bench.verify bench.update bench.fresh bench.wanted bench.wanted_fresh bench.trial bench.gather",
         name,
     );
     match which {
         0..=2 => ask_two(which, line, at, a, out),
-        3..=6 => ask_three(which, line, at, a, out),
+        3..=9 => ask_three(which, line, at, a, out),
         _ => UNKNOWN,
     }
 }
@@ -73,6 +73,9 @@ fn print_three(which: usize, table: &[u8], sheet: &[u8], third: &[u8], text: &mu
         3 => reports::verify(table, sheet, third, text),
         4 => listings::update(table, sheet, third, text),
         5 => listings::fresh(table, sheet, third, text),
-        _ => trials::trial(table, sheet, third, text),
+        6 => listings::wanted(table, sheet, third, text),
+        7 => listings::wanted_fresh(table, sheet, third, text),
+        8 => trials::trial(table, sheet, third, text),
+        _ => gathers::gather(table, sheet, third, text),
     }
 }

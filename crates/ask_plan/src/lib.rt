@@ -1,4 +1,4 @@
-// Requests on the three streams.
+// Requests on wanted words and the three streams.
 use ask::fields;
 use ask::fields::NOWHERE;
 use ask::name;
@@ -16,10 +16,11 @@ pub fn answer(
     v: &mut [u16],
     out: &mut [u8],
 ) -> usize {
-    match name::place(b"plan.update plan.fresh plan.read_back", name) {
+    match name::place(b"plan.update plan.fresh plan.read_back plan.wanted", name) {
         0 => update(line, at, a, w, v, out),
         1 => fresh(line, at, a, w, out),
         2 => read_back(line, at, a, out),
+        3 => wanted(line, at, w, v, out),
         _ => UNKNOWN,
     }
 }
@@ -72,6 +73,20 @@ fn read_back(line: &[u8], at: usize, a: &mut [u8], out: &mut [u8]) -> usize {
     let part = &mut a[..k];
     let p = plan::read_back(d.device, part);
     put_planned(out, at, p, part)
+}
+
+fn wanted(line: &[u8], at: usize, w: &mut [u16], v: &mut [u16], out: &mut [u8]) -> usize {
+    let d = fields::device(line, at);
+    let image = fields::words(line, d.at, w);
+    let reading = fields::words(line, image.at, v);
+    let i = fields::number(line, reading.at);
+    if i.at != line.len() {
+        return NOWHERE;
+    }
+    let n = image.count;
+    let m = reading.count;
+    let word = plan::wanted(d.device, &w[..n], &v[..m], i.value as usize);
+    put::number(out, at, word as u64)
 }
 
 // The number, the steps and the whole buffer.

@@ -4,7 +4,7 @@ fn main() {
     let t = files::read(files::open(1, b"device.tab"), &mut table);
     let mut sheet = io::large_buffer();
     let s = files::read(files::open(2, b"board.txt"), &mut sheet);
-    let mut out = [0u8; 114844];
+    let mut out = [0u8; 45144];
     let n = reports::dump(&table[..t], &sheet[..s], &mut out);
     files::show(&out, n);
 }

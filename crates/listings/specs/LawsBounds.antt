@@ -2,24 +2,35 @@
 use Prim.Native.Nat.{ℕ, _*_, _≤_}
 use native.Mathlib.Omega.{arith}
 use mathlib.Core.Path.{_≡_}
+use mathlib.Core.Bool.{true}
 use mathlib.Core.List.{List, [], _∷_}
 use lib.ListN.{length}
 use Rattle.numerals.specs.Hex.{byteText}
 use Rattle.target.specs.declared.Order.{Order}
 use Rattle.target.specs.Stream.{bytesOf}
 use Rattle.target.specs.LawsStream.{length-bytes}
+use Rattle.device.specs.declared.Device.{Device}
+use Rattle.device.specs.Record.{deviceOk}
+use Rattle.sheet.specs.Sheet.{sheetText}
+use Rattle.sheet.specs.LawsSheet.{length-sheet}
 use Rattle.print.specs.LawsLines.{either-short}
 use Rattle.board.specs.Open.{recordOf, openNumber, boardNumber}
 use Rattle.board.specs.LawsOpen.{opened-sound}
 use Rattle.board.specs.LawsBoard.{board-sound}
 use Rattle.listings.specs.Streams.{streamText, planText, hexOf, readbackText, updateText, freshText}
+use Rattle.listings.specs.Wanteds.{leftText, wantedText, wantedFreshText}
 use Rattle.listings.specs.LawsStreams.{mostStream}
 use Rattle.listings.specs.LawsPlanned.{read-back-few}
 use Rattle.listings.specs.LawsPlans.{update-few, fresh-few}
+use Rattle.listings.specs.LawsLeft.{sheet-most}
 
 -- the longest printed stream: a line of eight for each of 18,454 steps
 abbrev pub mostPrinted : ℕ
 mostPrinted = 147632
+
+-- the longest sheet
+abbrev pub mostLeft : ℕ
+mostLeft = 46135
 
 -- ---- streams
 
@@ -39,6 +50,12 @@ steps-short s few =
 plan-short : (number : ℕ) (s : List Order) → 3 * length s ≤ mostStream → length (planText number (bytesOf s)) ≤ mostPrinted
 unfolding planText
 plan-short number s few = either-short mostPrinted (omega arith) number 0 (streamText (bytesOf s)) (λ z. steps-short s few)
+
+-- ---- sheets
+
+left-short : (number : ℕ) (d : Device) → deviceOk d ≡ true → (reading : List ℕ) → length (leftText number d reading) ≤ mostLeft
+unfolding leftText
+left-short number d sound reading = either-short mostLeft (omega arith) number 0 (sheetText d reading) (λ z. rw (length-sheet d reading) (sheet-most d sound))
 
 -- ---- the programs
 
@@ -60,3 +77,17 @@ fresh-short table sheet hex =
     either-short mostPrinted (omega arith) (boardNumber table sheet) 0 _
     (λ z. either-short mostPrinted (omega arith) (hexOf table sheet hex .number) (hexOf table sheet hex .line) _
     (λ y. plan-short _ _ (fresh-few (recordOf table sheet) (board-sound table sheet z) _)))
+
+pub wanted-short : (table sheet hex : List ℕ) → length (wantedText table sheet hex) ≤ 46135
+unfolding wantedText
+wanted-short table sheet hex =
+    either-short mostLeft (omega arith) (boardNumber table sheet) 0 _
+    (λ z. either-short mostLeft (omega arith) (hexOf table sheet hex .number) (hexOf table sheet hex .line) _
+    (λ y. left-short _ (recordOf table sheet) (board-sound table sheet z) _))
+
+pub wanted-fresh-short : (table sheet hex : List ℕ) → length (wantedFreshText table sheet hex) ≤ 46135
+unfolding wantedFreshText
+wanted-fresh-short table sheet hex =
+    either-short mostLeft (omega arith) (boardNumber table sheet) 0 _
+    (λ z. either-short mostLeft (omega arith) (hexOf table sheet hex .number) (hexOf table sheet hex .line) _
+    (λ y. left-short _ (recordOf table sheet) (board-sound table sheet z) _))

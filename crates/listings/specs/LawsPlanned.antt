@@ -45,6 +45,7 @@ part-few n l h m = rw (length-take-le n l h) (omega arith)
 pub record Ready (number : ℕ) (steps : List Order) (r : Planned) (out : List ℕ) : Type 0 where
   pub within : 3 * r .steps ≤ length out
   pub short : length out ≤ mostStream
+  pub number-is : r .number ≡ number
   pub text : planText (r .number) (take (3 * r .steps) out) ≡ planText number (bytesOf steps)
 
 module _ (number : ℕ) (steps : List Order) (out : List ℕ) (long : length out ≡ mostStream) (r : Planned) (out′ : List ℕ) (p : Plans number steps out r out′) (few : 3 * length steps ≤ mostStream) where
@@ -52,7 +53,12 @@ module _ (number : ℕ) (steps : List Order) (out : List ℕ) (long : length out
   room = rw long few
 
   ready-refused : (number ≡ 0 → ⊥) → Ready number steps r out′
-  ready-refused n = record { within = rw none (omega arith); short = rw (kept, long) (omega arith); text = rw same (sym (plan-text-refused number _ n) ∙ plan-text-refused number _ n) }
+  ready-refused n = record {
+    within = rw none (omega arith);
+    short = rw (kept, long) (omega arith);
+    number-is = same;
+    text = rw same (sym (plan-text-refused number _ n) ∙ plan-text-refused number _ n);
+  }
     where
       is : planned number steps out ≡ record { number = number; steps = 0 }
       is = unfold planned in pick-false _ _ _ (ne-eqb number 0 n)
@@ -67,7 +73,7 @@ module _ (number : ℕ) (steps : List Order) (out : List ℕ) (long : length out
       kept = p .written ∙ (unfold plannedOut in pick-false _ _ _ (ne-eqb _ 0 (λ z. n (sym (ap (λ x. x .number) is) ∙ z))))
 
   ready-found : number ≡ 0 → Ready number steps r out′
-  ready-found z = record { within = rw (count, stays) room; short = rw (stays, long) (omega arith); text = rw (same, stored) }
+  ready-found z = record { within = rw (count, stays) room; short = rw (stays, long) (omega arith); number-is = same; text = rw (same, stored) }
     where
       is : planned number steps out ≡ record { number = 0; steps = length steps }
       is = unfold planned pick in rw (eq-eqb number 0 z, le-leb (3 * length steps) (length out) room)

@@ -1,10 +1,10 @@
--- Laws of the programs update and fresh, as one program that is told which of the two it is.
+-- Laws of the programs update, fresh, wanted and wanted_fresh, as one program that is told which planner it asks, and whether it prints the stream or the sheet that is left.
 use Prim.Native.Nat.{ℕ, _+_, _*_, _/_, _≤_, _<_}
 use native.Mathlib.Nat.{mul-le-mul-left}
 use native.Mathlib.Omega.{arith}
 use mathlib.Core.Path.{_≡_, refl, sym, ap, _∙_}
 use mathlib.Core.Bool.{Bool, true, false}
-use mathlib.Core.List.{List, _++_}
+use mathlib.Core.List.{List, [], _++_}
 use lib.Dec.{eqb, leb}
 use lib.ListN.{length, getD, take, length-append, length-replicate}
 use lib.Seq.{take-at, length-take-le}
@@ -21,58 +21,93 @@ use Rattle.hexread.specs.declared.ReadHex.{ReadHex}
 use Rattle.hexread.specs.LawsImage.{read-image-ok}
 use Rattle.target.specs.declared.Order.{Order}
 use Rattle.target.specs.Stream.{bytesOf}
+use Rattle.plan.specs.declared.Planned.{Planned}
 use Rattle.plan.specs.Steps.{updateSteps, freshSteps}
-use Rattle.plan.specs.Answers.{updateNumber, freshNumber}
+use Rattle.plan.specs.Answers.{updateNumber, freshNumber, Plans}
+use Rattle.plan.specs.Demands.{programmed}
 use Rattle.plan.specs.LawsPlanBounds.{update-bound, fresh-bound}
 use Rattle.print.specs.Print.{refusedText}
 use Rattle.board.specs.Open.{recordOf, boardNumber, boardReading}
 use Rattle.listings.specs.Streams.{hexOf, planText, updateText, freshText}
+use Rattle.listings.specs.Wanteds.{leftText, wantedText, wantedFreshText}
 use Rattle.listings.specs.LawsStreams.{mostStream}
 use Rattle.board.specs.LawsBoard.{Board, board-told, board-text}
 
--- ---- either program
+-- ---- either planner
 
--- the refusal and the steps of either planner
+-- its refusal, its steps, and what it knows of the board
 unfoldable pub planNumber : (fresh : Bool) → Device → (image reading : List ℕ) → ℕ
 planNumber fresh d image reading = pick fresh (freshNumber d image (getD reading (d .words + 6) 0)) (updateNumber d image reading)
 
 unfoldable pub planSteps : (fresh : Bool) → Device → (image reading : List ℕ) → List Order
 planSteps fresh d image reading = pick fresh (freshSteps d image) (updateSteps d image reading)
 
+unfoldable pub knownTo : (fresh : Bool) → (reading : List ℕ) → List ℕ
+knownTo fresh reading = pick fresh [] reading
+
+-- the text of its plan: the sheet that is left, or the stream
+unfoldable pub endText : (fresh left : Bool) → Device → (image reading : List ℕ) → List ℕ
+endText fresh left d image reading =
+    pick left (leftText (planNumber fresh d image reading) d (programmed d image (knownTo fresh reading) reading))
+    (planText (planNumber fresh d image reading) (bytesOf (planSteps fresh d image reading)))
+
 -- the text for what the HEX file came to
-unfoldable givenText : (fresh : Bool) → Device → (reading : List ℕ) → Outcome → List ℕ
-givenText fresh d reading given =
-    pick (eqb (given .number) 0) (planText (planNumber fresh d (given .image) reading) (bytesOf (planSteps fresh d (given .image) reading)))
-    (refusedText (given .number) (given .line))
+unfoldable givenText : (fresh left : Bool) → Device → (reading : List ℕ) → Outcome → List ℕ
+givenText fresh left d reading given = pick (eqb (given .number) 0) (endText fresh left d (given .image) reading) (refusedText (given .number) (given .line))
 
-unfoldable pub programText : (fresh : Bool) → (table sheet hex : List ℕ) → List ℕ
-programText fresh table sheet hex = pick fresh (freshText table sheet hex) (updateText table sheet hex)
+unfoldable pub programText : (fresh left : Bool) → (table sheet hex : List ℕ) → List ℕ
+programText fresh left table sheet hex =
+    pick left (pick fresh (wantedFreshText table sheet hex) (wantedText table sheet hex))
+    (pick fresh (freshText table sheet hex) (updateText table sheet hex))
 
-pub update-is : (table sheet hex : List ℕ) → programText false table sheet hex ≡ updateText table sheet hex
-unfolding programText pick
-update-is table sheet hex = refl
+module _ (table sheet hex : List ℕ) where
+  pub update-is : programText false false table sheet hex ≡ updateText table sheet hex
+  unfolding programText pick
+  update-is = refl
 
-pub fresh-is : (table sheet hex : List ℕ) → programText true table sheet hex ≡ freshText table sheet hex
-unfolding programText pick
-fresh-is table sheet hex = refl
+  pub fresh-is : programText true false table sheet hex ≡ freshText table sheet hex
+  unfolding programText pick
+  fresh-is = refl
+
+  pub wanted-is : programText false true table sheet hex ≡ wantedText table sheet hex
+  unfolding programText pick
+  wanted-is = refl
+
+  pub wanted-fresh-is : programText true true table sheet hex ≡ wantedFreshText table sheet hex
+  unfolding programText pick
+  wanted-fresh-is = refl
 
 module _ (fresh : Bool) (d : Device) (image reading : List ℕ) where
-  pub plan-fresh : fresh ≡ true → planText (freshNumber d image (getD reading (d .words + 6) 0)) (bytesOf (freshSteps d image)) ≡ planText (planNumber fresh d image reading) (bytesOf (planSteps fresh d image reading))
-  unfolding planNumber planSteps pick
-  plan-fresh e = rw e
+  -- what the planner that was asked promises
+  module _ (out : List ℕ) (r : Planned) (out′ : List ℕ) where
+    pub plans-fresh : fresh ≡ true → Plans (freshNumber d image (getD reading (d .words + 6) 0)) (freshSteps d image) out r out′
+        → Plans (planNumber fresh d image reading) (planSteps fresh d image reading) out r out′
+    unfolding planNumber planSteps pick
+    plans-fresh e p = rw e p
 
-  pub plan-update : fresh ≡ false → planText (updateNumber d image reading) (bytesOf (updateSteps d image reading)) ≡ planText (planNumber fresh d image reading) (bytesOf (planSteps fresh d image reading))
-  unfolding planNumber planSteps pick
-  plan-update e = rw e
+    pub plans-update : fresh ≡ false → Plans (updateNumber d image reading) (updateSteps d image reading) out r out′
+        → Plans (planNumber fresh d image reading) (planSteps fresh d image reading) out r out′
+    unfolding planNumber planSteps pick
+    plans-update e p = rw e p
+
+  module _ (left : Bool) where
+    pub end-left : left ≡ true → (number : ℕ) → number ≡ planNumber fresh d image reading
+        → leftText number d (programmed d image (knownTo fresh reading) reading) ≡ endText fresh left d image reading
+    unfolding endText
+    end-left e number n = ap (λ k. leftText k d (programmed d image (knownTo fresh reading) reading)) n ∙ sym (pick-true left _ _ e)
+
+    pub end-stream : left ≡ false → planText (planNumber fresh d image reading) (bytesOf (planSteps fresh d image reading)) ≡ endText fresh left d image reading
+    unfolding endText
+    end-stream e = sym (pick-false left _ _ e)
 
 -- ---- what the HEX file came to
 
-module _ (fresh : Bool) (d : Device) (reading : List ℕ) (given : Outcome) where
-  given-refused : (given .number ≡ 0 → ⊥) → refusedText (given .number) (given .line) ≡ givenText fresh d reading given
+module _ (fresh left : Bool) (d : Device) (reading : List ℕ) (given : Outcome) where
+  given-refused : (given .number ≡ 0 → ⊥) → refusedText (given .number) (given .line) ≡ givenText fresh left d reading given
   unfolding givenText
   given-refused n = sym (pick-false (eqb (given .number) 0) _ _ (ne-eqb (given .number) 0 n))
 
-  given-found : given .number ≡ 0 → planText (planNumber fresh d (given .image) reading) (bytesOf (planSteps fresh d (given .image) reading)) ≡ givenText fresh d reading given
+  given-found : given .number ≡ 0 → endText fresh left d (given .image) reading ≡ givenText fresh left d reading given
   unfolding givenText
   given-found z = sym (pick-true (eqb (given .number) 0) _ _ (eq-eqb (given .number) 0 z))
 
@@ -85,34 +120,37 @@ read-any d hex image sound long =
 
 -- ---- the board, and then the HEX file
 
-module _ (fresh : Bool) (table sheet hex : List ℕ) where
+module _ (fresh left : Bool) (table sheet hex : List ℕ) where
   -- the text for a board that is not refused
   whole : List ℕ
-  whole = givenText fresh (recordOf table sheet) (boardReading table sheet) (hexOf table sheet hex)
+  whole = givenText fresh left (recordOf table sheet) (boardReading table sheet) (hexOf table sheet hex)
 
-  program-board : programText fresh table sheet hex ≡ pick (eqb (boardNumber table sheet) 0) whole (refusedText (boardNumber table sheet) 0)
+  program-board : programText fresh left table sheet hex ≡ pick (eqb (boardNumber table sheet) 0) whole (refusedText (boardNumber table sheet) 0)
   unfolding whole
-  program-board = by fresh
+  program-board = by fresh left
     where
-      by : (f : Bool) → programText f table sheet hex
-          ≡ pick (eqb (boardNumber table sheet) 0) (givenText f (recordOf table sheet) (boardReading table sheet) (hexOf table sheet hex)) (refusedText (boardNumber table sheet) 0)
-      by true = unfold programText freshText givenText planNumber planSteps in pick-true true _ _ refl ∙ (unfold pick in refl)
-      by false = unfold programText updateText givenText planNumber planSteps in pick-false false _ _ refl ∙ (unfold pick in refl)
+      by : (f l : Bool) → programText f l table sheet hex
+          ≡ pick (eqb (boardNumber table sheet) 0) (givenText f l (recordOf table sheet) (boardReading table sheet) (hexOf table sheet hex)) (refusedText (boardNumber table sheet) 0)
+      by true true = unfold programText wantedFreshText givenText endText planNumber knownTo pick in refl
+      by false true = unfold programText wantedText givenText endText planNumber knownTo pick in refl
+      by true false = unfold programText freshText givenText endText planNumber planSteps pick in refl
+      by false false = unfold programText updateText givenText endText planNumber planSteps pick in refl
 
   module _ (number : ℕ) (e : number ≡ boardNumber table sheet) where
-    pub program-refused : (number ≡ 0 → ⊥) → refusedText number 0 ≡ programText fresh table sheet hex
+    pub program-refused : (number ≡ 0 → ⊥) → refusedText number 0 ≡ programText fresh left table sheet hex
     program-refused n = board-told table sheet number e (λ k. refusedText k 0) whole n ∙ sym program-board
 
     module _ (z : number ≡ 0) where
-      program-whole : whole ≡ programText fresh table sheet hex
+      program-whole : whole ≡ programText fresh left table sheet hex
       program-whole = board-text table sheet number e whole (refusedText (boardNumber table sheet) 0) z ∙ sym program-board
 
-      pub program-long : 65536 < length hex → refusedText 1 0 ≡ programText fresh table sheet hex
+      pub program-long : 65536 < length hex → refusedText 1 0 ≡ programText fresh left table sheet hex
       unfolding whole
       program-long h =
           let long : hexOf table sheet hex ≡ refusedAt (recordOf table sheet .words) 1 0 = unfold hexOf in pick-false (leb (length hex) 65536) _ _ (lt-leb (length hex) 65536 h) in
-          let told : refusedText 1 0 ≡ givenText fresh (recordOf table sheet) (boardReading table sheet) (refusedAt (recordOf table sheet .words) 1 0) = unfold givenText refusedAt pick in refl in
-          told ∙ (ap (givenText fresh (recordOf table sheet) (boardReading table sheet)) (sym long) ∙ program-whole)
+          let told : refusedText 1 0 ≡ givenText fresh left (recordOf table sheet) (boardReading table sheet) (refusedAt (recordOf table sheet .words) 1 0) =
+          unfold givenText refusedAt pick in refl in
+          told ∙ (ap (givenText fresh left (recordOf table sheet) (boardReading table sheet)) (sym long) ∙ program-whole)
 
       module _ (d : Device) (reading : List ℕ) (b : Board table sheet d reading) (h : length hex ≤ 65536) (image : List ℕ) (long : length image ≡ d .words + readingTail)
           (r : ReadHex) (image′ : List ℕ) (p : HexRead d hex image r image′) where
@@ -130,15 +168,15 @@ module _ (fresh : Bool) (table sheet hex : List ℕ) where
         unfolding readAnswer
         line-is = ap (λ x. x .line) (p .answer)
 
-        read-whole : givenText fresh d (take (d .words + readingTail) reading) (textRead d hex image) ≡ programText fresh table sheet hex
+        read-whole : givenText fresh left d (take (d .words + readingTail) reading) (textRead d hex image) ≡ programText fresh left table sheet hex
         unfolding whole
         read-whole =
-            ap (givenText fresh d (take (d .words + readingTail) reading)) given
-            ∙ (ap (λ l. givenText fresh d l (hexOf table sheet hex)) (b .front)
-            ∙ (ap (λ x. givenText fresh x (boardReading table sheet) (hexOf table sheet hex)) (b .record-is) ∙ program-whole))
+            ap (givenText fresh left d (take (d .words + readingTail) reading)) given
+            ∙ (ap (λ l. givenText fresh left d l (hexOf table sheet hex)) (b .front)
+            ∙ (ap (λ x. givenText fresh left x (boardReading table sheet) (hexOf table sheet hex)) (b .record-is) ∙ program-whole))
 
-        pub program-hex : (r .number ≡ 0 → ⊥) → refusedText (r .number) (r .line) ≡ programText fresh table sheet hex
-        program-hex n = rw (number-is, line-is) (given-refused fresh d (take (d .words + readingTail) reading) (textRead d hex image) (λ z. n (number-is ∙ z)) ∙ read-whole)
+        pub program-hex : (r .number ≡ 0 → ⊥) → refusedText (r .number) (r .line) ≡ programText fresh left table sheet hex
+        program-hex n = rw (number-is, line-is) (given-refused fresh left d (take (d .words + readingTail) reading) (textRead d hex image) (λ z. n (number-is ∙ z)) ∙ read-whole)
 
         module _ (y : r .number ≡ 0) (rest : List ℕ) where
           count : length image′ ≡ d .words + readingTail
@@ -150,13 +188,10 @@ module _ (fresh : Bool) (table sheet hex : List ℕ) where
           pub program-front : length (take (d .words + readingTail) (image′ ++ rest)) ≡ d .words + readingTail
           program-front = length-take-le (d .words + readingTail) (image′ ++ rest) program-within
 
-          pub program-found : planText (planNumber fresh d (take (d .words + readingTail) (image′ ++ rest)) (take (d .words + readingTail) reading))
-              (bytesOf (planSteps fresh d (take (d .words + readingTail) (image′ ++ rest)) (take (d .words + readingTail) reading)))
-              ≡ programText fresh table sheet hex
+          pub program-found : endText fresh left d (take (d .words + readingTail) (image′ ++ rest)) (take (d .words + readingTail) reading) ≡ programText fresh left table sheet hex
           program-found =
-              ap (λ l. planText (planNumber fresh d l (take (d .words + readingTail) reading)) (bytesOf (planSteps fresh d l (take (d .words + readingTail) reading))))
-              (take-at image′ rest (d .words + readingTail) count ∙ p .image-is)
-              ∙ (given-found fresh d (take (d .words + readingTail) reading) (textRead d hex image) (sym number-is ∙ y) ∙ read-whole)
+              ap (λ l. endText fresh left d l (take (d .words + readingTail) reading)) (take-at image′ rest (d .words + readingTail) count ∙ p .image-is)
+              ∙ (given-found fresh left d (take (d .words + readingTail) reading) (textRead d hex image) (sym number-is ∙ y) ∙ read-whole)
 
 -- ---- each planner has room
 
@@ -174,3 +209,8 @@ fresh-few d sound image = program-few d sound (length (freshSteps d image)) (fre
 
 pub update-few : (d : Device) → deviceOk d ≡ true → (image reading : List ℕ) → 3 * length (updateSteps d image reading) ≤ mostStream
 update-few d sound image reading = program-few d sound (length (updateSteps d image reading)) (update-bound d image reading sound)
+
+pub plan-few : (fresh : Bool) (d : Device) → deviceOk d ≡ true → (image reading : List ℕ) → 3 * length (planSteps fresh d image reading) ≤ mostStream
+unfolding planSteps pick
+plan-few true d sound image reading = fresh-few d sound image
+plan-few false d sound image reading = update-few d sound image reading

@@ -5,7 +5,7 @@ use mathlib.Core.Path.{_≡_, refl, sym, _∙_}
 use mathlib.Core.Bool.{Bool, true, false, _||_, not}
 use mathlib.Core.List.{List, []}
 use lib.Dec.{eqb}
-use lib.ListN.{length, getD}
+use lib.ListN.{length, getD, List·getD-eq-default}
 use borrow.Author.Tests.{lt-ltb, le-ltb}
 use Rattle.words.specs.Word.{erased, notGiven}
 use Rattle.device.specs.declared.Device.{Device}
@@ -33,6 +33,10 @@ module _ (d : Device) (image reading : List ℕ) (i given : ℕ) (e : given ≡ 
 
   pub is-given : (given ≡ notGiven → ⊥) → given ≡ wanted d image reading i
   is-given s = e ∙ sym (wanted-given d image reading i (λ q. s (e ∙ q)))
+
+-- past an image's end nothing is given
+pub is-past : (d : Device) (image reading : List ℕ) (i word : ℕ) → length image ≤ i → word ≡ known reading i → word ≡ wanted d image reading i
+is-past d image reading i word h w = w ∙ sym (wanted-silent d image reading i (List·getD-eq-default image notGiven h))
 
 pub differs-is : (word old : ℕ → ℕ) (i a b : ℕ) → a ≡ word i → b ≡ old i → not (eqb a b) ≡ differs word old i
 unfolding differs

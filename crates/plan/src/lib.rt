@@ -1,4 +1,4 @@
-// The three streams: update, fresh and read-back. No public call here has a `requires`.
+// What a board is to hold, and the three streams: update, fresh and read-back. No public call here has a `requires`.
 mod config;
 mod count;
 mod orders;
@@ -10,6 +10,7 @@ mod source;
 pub use planner::fresh;
 pub use planner::read_back;
 pub use planner::update;
+pub use source::wanted;
 
 // The number of steps that were written; or a refusal, and nothing else.
 pub struct Planned {

@@ -41,6 +41,16 @@ pub(crate) fn wanted_word(d: Device, image: &[u16], reading: &[u16], i: usize) -
     given
 }
 
+// The word that an entry is to hold; past the image's end nothing is given.
+pub fn wanted(d: Device, image: &[u16], reading: &[u16], i: usize) -> u16
+    ensures { λ r. ⌜ r ≡ wanted d (now (image .entry)) (now (reading .entry)) i ⌝ }
+{
+    if i < image.len() {
+        return wanted_word(d, image, reading, i);
+    }
+    known_word(reading, i)
+}
+
 // Whether a wanted word is not the one that stands there.
 pub(crate) fn word_differs(d: Device, image: &[u16], reading: &[u16], i: usize) -> bool
     requires { ⌜ i < length (now image) ⌝ }

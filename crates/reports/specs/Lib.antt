@@ -2,4 +2,5 @@
 pub mod Programs
 pub mod Dump
 pub mod LawsPrograms
+pub mod LawsWhole
 pub mod LawsDump

@@ -8,10 +8,10 @@ ghost use Rattle.print.specs.Print.{Prints};
 ghost use Rattle.reports.specs.Dump.{dumpText};
 ghost use Rattle.reports.specs.LawsDump.{mostDump};
 
-// The longest HEX text that is written: 14P + 156 bytes.
-const MOST_DUMP: usize = 14 * (MOST_WORDS as usize) + 156;
+// The longest text: 44 bytes for eight program words, and 88.
+const MOST_DUMP: usize = 44 * ((MOST_WORDS as usize) / 8) + 88;
 
-// Prints a board's sheet as HEX text as far as there is room, and answers the length of the whole text.
+// Prints a board's sheet as HEX text as far as there is room, and answers the length of the whole text. A protected sheet has no program words to tell of.
 pub fn dump(table: &[u8], sheet: &[u8], out: &mut [u8]) -> usize
     ensures { λ r. ⌜ (Prints (dumpText (now (table .entry)) (now (sheet .entry))) (now (out .entry)) r (now (out .exit))) × (r ≤ mostDump) ⌝ }
 {
@@ -21,12 +21,15 @@ pub fn dump(table: &[u8], sheet: &[u8], out: &mut [u8]) -> usize
         return print::refusal(out, opened.number, 0);
     }
     let device = opened.device;
+    let count = (device.words as usize) + READING_TAIL;
+    if device::is_protected(device.words, &image[..count]) {
+        return print::refusal(out, 23, 0);
+    }
     // the reading is an image but for the three words that are never given
     let first = (device.words as usize) + IDS;
     image[first] = NOT_GIVEN;
     image[first + 1] = NOT_GIVEN;
     image[first + 2] = NOT_GIVEN;
-    let count = (device.words as usize) + READING_TAIL;
     let mut hex = [0u8; MOST_DUMP];
     let written = hexwrite::write_hex(device, &image[..count], &mut hex);
     // an image under a sound record is not refused, and its text has room

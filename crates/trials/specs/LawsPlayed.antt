@@ -87,7 +87,7 @@ module _ (d : Device) (sound : deviceOk d ≡ true) (reading : List ℕ) (ok : r
         ∙ (take-append-add reading (replicate (8194 - d .words) erased) 2 ∙ ap (λ l. reading ++ l) (blank-part 2 (8194 - d .words) two)))
 
 -- a reading and two calibration words are sound cells
-cells-sound : (d : Device) (reading : List ℕ) → readingOk (d .words) reading ≡ true → (cells : List ℕ) → cells ≡ cellsOf reading → soundCells (chipOf d) cells ≡ true
+pub cells-sound : (d : Device) (reading : List ℕ) → readingOk (d .words) reading ≡ true → (cells : List ℕ) → cells ≡ cellsOf reading → soundCells (chipOf d) cells ≡ true
 unfolding soundCells cellsOf
 cells-sound d reading ok cells e = words-of (d .words + cellsTail) cells long (λ i h. each i (decLt i (d .words + readingTail)))
   where

@@ -2,7 +2,7 @@
 
 use crate::board::{board, record, Refusal};
 use crate::device::Device;
-use crate::words::{capital, spelled, NOT_GIVEN, WORD_MAX};
+use crate::words::{capital, capital_word, spelled, NOT_GIVEN, WORD_MAX};
 use crate::{hex, judge, model, print, sheet, streams};
 
 /// The most lines of a printed stream that `trial` plays.
@@ -79,6 +79,31 @@ pub fn fresh(table: &[u8], sheet: &[u8], text: &[u8]) -> Printed {
     }))
 }
 
+/// The sheet that an update is to leave, or what the update refuses.
+pub fn wanted(table: &[u8], sheet: &[u8], text: &[u8]) -> Printed {
+    printed(board(table, sheet).and_then(|(d, reading)| {
+        let image = hex::image(&d, text, hex::PROGRAM_TEXT_MAX)?;
+        match streams::update_refusal(&d, &image, &reading) {
+            Some(number) => Err((number, 0)),
+            None => Ok((0, sheet::text(&d, &streams::wanted_over(&image, &reading)))),
+        }
+    }))
+}
+
+/// The sheet that a fresh programming is to leave: 8004h to 8006h are the board's.
+pub fn wanted_fresh(table: &[u8], sheet: &[u8], text: &[u8]) -> Printed {
+    printed(board(table, sheet).and_then(|(d, reading)| {
+        let image = hex::image(&d, text, hex::PROGRAM_TEXT_MAX)?;
+        if reading[d.p() + 6] != d.id {
+            return Err((22, 0));
+        }
+        let kept = d.p() + 4..d.p() + 7;
+        let mut wanted = streams::wanted_blank(&image);
+        wanted[kept.clone()].copy_from_slice(&reading[kept]);
+        Ok((0, sheet::text(&d, &wanted)))
+    }))
+}
+
 /// A step of a printed line: two capital digits, a tab, four.
 fn printed_step(line: &[u8]) -> Option<[u8; 3]> {
     if line.len() != 7 || line[2] != b'\t' {
@@ -126,6 +151,35 @@ pub fn whole_image(d: &Device, reading: &[u16]) -> Vec<u16> {
     image
 }
 
+/// Nobody can see the program words of a protected board, so there is no copy of it.
 pub fn dump(table: &[u8], sheet: &[u8]) -> Printed {
-    printed(board(table, sheet).map(|(d, reading)| (0, hex::text(&d, &whole_image(&d, &reading)))))
+    printed(board(table, sheet).and_then(|(d, reading)| {
+        if d.protected(&reading) {
+            return Err((23, 0));
+        }
+        Ok((0, hex::text(&d, &whole_image(&d, &reading))))
+    }))
+}
+
+/// The words that a read-back answered, a line each, as they are typed.
+pub fn answer_text(words: &[u16]) -> Vec<u8> {
+    words
+        .iter()
+        .flat_map(|w| format!("{w:04X}\n").into_bytes())
+        .collect()
+}
+
+/// Just a whole reading's words, each line ended by LF.
+fn answered(d: &Device, text: &[u8]) -> Option<Vec<u16>> {
+    let lines = text.strip_suffix(b"\n")?.split(|&c| c == b'\n');
+    let words: Vec<u16> = lines.map(capital_word).collect::<Option<_>>()?;
+    d.is_reading(&words).then_some(words)
+}
+
+/// Reads line 1 of the sheet alone; 21 where the words are not a reading.
+pub fn gather(table: &[u8], sheet: &[u8], text: &[u8]) -> Printed {
+    printed(record(table, sheet).and_then(|d| {
+        let words = answered(&d, text).ok_or((21, 0))?;
+        Ok((0, sheet::text(&d, &words)))
+    }))
 }

@@ -23,7 +23,8 @@ pub struct Call {
 
 /// What 0 and 1 mean for calls that give no refusal numbers.
 pub const CLASSES: &str =
-    "words.*, print.*, next_line, line_from, first_number: 0 found or done, 1 nothing there (no room); is_words, is_image, is_reading, is_protected, programmable, id_fits: the answer";
+    "words.*, print.*, next_line, line_from, first_number: 0 found or done, 1 nothing there (no room); is_words, is_image, is_reading, is_protected, programmable, id_fits: the answer; \
+     plan.wanted: 0 given by the image, 1 not";
 
 #[derive(Clone, Debug)]
 pub struct Request {
@@ -637,6 +638,25 @@ pub static CALLS: &[Call] = &[
         },
     },
     Call {
+        name: "plan.wanted",
+        kinds: &[
+            Num(16),
+            Num(16),
+            Num(16),
+            Num(16),
+            Num(16),
+            Words,
+            Words,
+            Num(64),
+        ],
+        classes: &[0, 1],
+        own: |f| {
+            let i = field::num(f, D + 2);
+            let (given, word) = streams::wanted_at(field::words(f, D), field::words(f, D + 1), i);
+            reply(u32::from(!given), vec![word.into()])
+        },
+    },
+    Call {
         name: "print.refusal",
         kinds: &[Num(8), Num(32), Bytes],
         classes: &[0, 1],
@@ -728,6 +748,25 @@ pub static CALLS: &[Call] = &[
         },
     },
     Call {
+        name: "bench.wanted",
+        kinds: &[Bytes, Bytes, Bytes, Bytes],
+        classes: &[0, 1, 2, 3, 4, 5, 6, 7, 8, 9, 10, 11, 14, 15, 16, 22, 23, 24],
+        own: |f| {
+            let printed = bench::wanted(field::bytes(f, 0), field::bytes(f, 1), field::bytes(f, 2));
+            shown(&printed, field::bytes(f, 3))
+        },
+    },
+    Call {
+        name: "bench.wanted_fresh",
+        kinds: &[Bytes, Bytes, Bytes, Bytes],
+        classes: &[0, 1, 2, 3, 4, 5, 6, 7, 8, 9, 10, 11, 14, 15, 16, 22],
+        own: |f| {
+            let printed =
+                bench::wanted_fresh(field::bytes(f, 0), field::bytes(f, 1), field::bytes(f, 2));
+            shown(&printed, field::bytes(f, 3))
+        },
+    },
+    Call {
         name: "bench.trial",
         kinds: &[Bytes, Bytes, Bytes, Bytes],
         classes: &[0, 14, 15, 16, 30, 31, 33, 34],
@@ -737,9 +776,18 @@ pub static CALLS: &[Call] = &[
         },
     },
     Call {
+        name: "bench.gather",
+        kinds: &[Bytes, Bytes, Bytes, Bytes],
+        classes: &[0, 14, 15, 16, 21],
+        own: |f| {
+            let printed = bench::gather(field::bytes(f, 0), field::bytes(f, 1), field::bytes(f, 2));
+            shown(&printed, field::bytes(f, 3))
+        },
+    },
+    Call {
         name: "bench.dump",
         kinds: &[Bytes, Bytes, Bytes],
-        classes: &[0, 14, 15, 16],
+        classes: &[0, 14, 15, 16, 23],
         own: |f| {
             shown(
                 &bench::dump(field::bytes(f, 0), field::bytes(f, 1)),

@@ -138,6 +138,8 @@ fn malformed() -> Vec<Vec<u8>> {
         "quit",
         "bench.dump - -",
         "bench.dump - - - -",
+        "bench.gather - - -",
+        "bench.gather - - - - -",
         "print.refusal 256 0 -",
         "print.refusal 0 4294967296 -",
         "print.sum 65536 -",

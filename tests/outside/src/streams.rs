@@ -91,6 +91,15 @@ pub fn wanted_blank(image: &[u16]) -> Vec<u16> {
     wanted_over(image, &vec![WORD_MAX; image.len()])
 }
 
+/// The word that the image gives for an entry, or else the reading's; 3FFFh past the reading's end.
+pub fn wanted_at(image: &[u16], reading: &[u16], i: u64) -> (bool, u16) {
+    let at = |list: &[u16]| usize::try_from(i).ok().and_then(|i| list.get(i).copied());
+    match at(image).filter(|&entry| entry != NOT_GIVEN) {
+        Some(given) => (true, given),
+        None => (false, at(reading).unwrap_or(WORD_MAX)),
+    }
+}
+
 pub fn update_stream(d: &Device, wanted: &[u16], reading: &[u16]) -> Vec<u8> {
     let (p, r) = (d.p(), d.r());
     let mut s = Writer::new();

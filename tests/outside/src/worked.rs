@@ -266,6 +266,7 @@ fn bench_cases() -> Vec<Case> {
         String::from_utf8_lossy(board).replace("2A00\t3FFF\t3FFF\n", "2A00\t3F7F\t3FFF\n");
     let protected = protected.as_bytes();
     let written = String::from_utf8_lossy(protected).to_string();
+    let came_back = "3FFF\n".repeat(21) + "2000\n2A00\n3FFF\n3FFF\n";
     let dump = ":10000000FF3FFF3FFF3FFF3FFF3FFF3FFF3FFF3F00\n\
         :10001000FF3FFF3FFF3FFF3FFF3FFF3FFF3FFF3FF0\n\
         :020000040001F9\n:08000000FF3FFF3FFF3FFF3F00\n:02000E00FF3FB2\n:02001000FF3FB0\n:00000001FF\n";
@@ -361,6 +362,24 @@ fn bench_cases() -> Vec<Case> {
             "refused\t34\t2\n",
         ),
         bench_case("a whole copy", "bench.dump", &[TINY_LINE, board], dump),
+        bench_case(
+            "a copy of a protected board",
+            "bench.dump",
+            &[TINY_LINE, protected],
+            "refused\t23\t0\n",
+        ),
+        bench_case(
+            "the words that came back",
+            "bench.gather",
+            &[TINY_LINE, b"2A00\n", came_back.as_bytes()],
+            &String::from_utf8_lossy(board),
+        ),
+        bench_case(
+            "a word lost",
+            "bench.gather",
+            &[TINY_LINE, b"2A00\n", &came_back.as_bytes()[5..]],
+            "refused\t21\t0\n",
+        ),
     ]
 }
 
@@ -449,7 +468,16 @@ pub fn round_trips(rng: &mut Rng, tally: &mut Tally) {
         update_trip(&d, &board, &image, tally);
         fresh_trip(&d, &image, rng, tally);
         steps_trip(&d, &board, &image, rng, tally);
+        rehearsal_trip(&d, &board, &image, tally);
     }
+}
+
+/// The device as a line of a table.
+fn table_line(d: &Device) -> String {
+    format!(
+        "a b\t{:04X}\t{}\t{}\t{:04X}\t{:04X}\n",
+        d.id, d.words, d.row, d.mask1, d.mask2
+    )
 }
 
 fn texts_trip(d: &Device, board: &[u16], image: &[u16], tally: &mut Tally) {
@@ -468,10 +496,7 @@ fn texts_trip(d: &Device, board: &[u16], image: &[u16], tally: &mut Tally) {
     tally.check(size == 5 + 45 * d.p() / 8 + 50, || {
         format!("a sheet's length: {size}")
     });
-    let text = format!(
-        "a b\t{:04X}\t{}\t{}\t{:04X}\t{:04X}\n",
-        d.id, d.words, d.row, d.mask1, d.mask2
-    );
+    let text = table_line(d);
     let found = device::find(text.as_bytes(), d.id).map(|l| l.device);
     tally.check(found == Ok(*d), || format!("a table's line: {text:?}"));
     let same = judge::verify(d, board, board);
@@ -537,6 +562,24 @@ fn fresh_trip(d: &Device, image: &[u16], rng: &mut Rng, tally: &mut Tally) {
     end.extend_from_slice(&cells[p + 9..]);
     tally.check(after == end, || {
         format!("a fresh stream does not end in what is wanted: {d:?}")
+    });
+}
+
+/// A printed stream, played, leaves the sheet that was wanted.
+fn rehearsal_trip(d: &Device, board: &[u16], image: &[u16], tally: &mut Tally) {
+    let table = table_line(d).into_bytes();
+    let (board, file) = (sheet::text(d, board), hex::text(d, image));
+    let stream = bench::update(&table, &board, &file).text;
+    let left = bench::trial(&table, &board, &stream).text;
+    let wanted = bench::wanted(&table, &board, &file);
+    tally.check(wanted.number == 0 && left == wanted.text, || {
+        format!("an update, rehearsed: {d:?}")
+    });
+    let stream = bench::fresh(&table, &board, &file).text;
+    let left = bench::trial(&table, &board, &stream).text;
+    let wanted = bench::wanted_fresh(&table, &board, &file);
+    tally.check(wanted.number == 0 && left == wanted.text, || {
+        format!("a fresh programming, rehearsed: {d:?}")
     });
 }
 

@@ -17,26 +17,30 @@ use crate::sheet;
 pub fn bench(name: &str, aim: u32, rng: &mut Rng) -> Vec<Field> {
     let d = any_device(rng);
     let protected = match (name, aim) {
-        ("update", 0 | 24) => false,
-        ("update", 23) | (_, 41) => true,
-        ("verify", 0) => false,
+        ("update" | "wanted", 0 | 24) => false,
+        ("update" | "wanted" | "dump", 23) | (_, 41) => true,
+        ("verify" | "dump", 0) => false,
         _ => rng.chance(30),
     };
     let mut reading = reading_for(&d, protected, rng);
     // The third file is made with the reading still sound, and may change it to suit.
     let third = match name {
-        "update" | "fresh" => Some(hex_file(&d, &mut reading, aim, rng)),
+        "update" | "fresh" | "wanted" | "wanted_fresh" => {
+            Some(hex_file(&d, &mut reading, aim, rng))
+        }
         "verify" => Some(wanted_file(&d, &reading, aim, rng)),
         "trial" => Some(stream_file(&d, aim, rng)),
+        "gather" => Some(words_file(&d, &reading, aim, rng)),
         _ => None,
     };
     if aim == 22
         || (aim != 0 && aim < 12 && rng.chance(20))
-        || (name == "update" && also(aim, &[14, 15, 16], rng))
+        || (matches!(name, "update" | "wanted") && also(aim, &[14, 15, 16], rng))
     {
         reading[d.p() + 6] ^= 1 << rng.below(14);
     }
-    let (table, board) = first_files(&d, &sheet::text(&d, &reading), aim, name == "readback", rng);
+    let alone = matches!(name, "readback" | "gather");
+    let (table, board) = first_files(&d, &sheet::text(&d, &reading), aim, alone, rng);
     let mut fields: Vec<Field> = vec![table.clone().into(), board.clone().into()];
     let file = third.clone().unwrap_or_default();
     let printed = match name {
@@ -45,7 +49,10 @@ pub fn bench(name: &str, aim: u32, rng: &mut Rng) -> Vec<Field> {
         "readback" => own::readback(&table, &board),
         "update" => own::update(&table, &board, &file),
         "fresh" => own::fresh(&table, &board, &file),
+        "wanted" => own::wanted(&table, &board, &file),
+        "wanted_fresh" => own::wanted_fresh(&table, &board, &file),
         "trial" => own::trial(&table, &board, &file),
+        "gather" => own::gather(&table, &board, &file),
         _ => own::dump(&table, &board),
     };
     let short = rng.chance(25);
@@ -189,6 +196,46 @@ fn bad_line(line: &[u8], rng: &mut Rng) -> Vec<u8> {
         _ => bad.truncate(rng.below(7)),
     }
     bad
+}
+
+/// Words that came back; a line in them that is none, a word above 3FFF, or some too few or too many, is 21.
+fn words_file(d: &Device, reading: &[u16], aim: u32, rng: &mut Rng) -> Vec<u8> {
+    let mut words = reading.to_vec();
+    let spoilt = aim == 21 || also(aim, &[14, 15, 16], rng);
+    if spoilt && rng.chance(40) {
+        match rng.below(4) {
+            0 => words.truncate(rng.below(words.len())),
+            1 => {
+                words.remove(rng.below(d.entries()));
+            }
+            2 => words.insert(rng.below(d.entries() + 1), rng.word()),
+            _ => words[rng.below(d.entries())] |= 1 << rng.between(14, 15),
+        }
+        return own::answer_text(&words);
+    }
+    let mut text = own::answer_text(&words);
+    if spoilt {
+        let at = 5 * rng.below(d.entries());
+        match rng.below(8) {
+            0 => text[at + rng.below(4)] = rng.pick(b"abcdef/:@G`g \t\r"),
+            1 => text[at + 4] = rng.pick(b"\r\t 0"),
+            2 => text.insert(at + rng.below(5), rng.pick(b"0 \t\r\n")),
+            3 => {
+                text.remove(at + rng.below(5));
+            }
+            4 => {
+                text.pop();
+            }
+            5 => text.push(rng.pick(b"\n\r0 ")),
+            6 => text.clear(),
+            // A word's line once more, so that no line is wrong by itself.
+            _ => {
+                let line = text[at..at + 5].to_vec();
+                text.extend(line);
+            }
+        }
+    }
+    text
 }
 
 fn stream_file(d: &Device, aim: u32, rng: &mut Rng) -> Vec<u8> {

@@ -11,7 +11,7 @@ use crate::model::{
 };
 use crate::rng::Rng;
 use crate::streams as own;
-use crate::words::WORD_MAX;
+use crate::words::{NOT_GIVEN, WORD_MAX};
 
 const CODES: [u8; 8] = [
     LOAD_CONFIGURATION,
@@ -341,10 +341,52 @@ fn fresh(aim: u32, rng: &mut Rng) -> Vec<Field> {
     fields
 }
 
+/// An entry that the image gives, or one that it does not, also past either list's end; an unsound entry is taken as it stands.
+fn wanted(aim: u32, rng: &mut Rng) -> Vec<Field> {
+    let mut d = any_device(rng);
+    let mut reading = reading_for(&d, rng.chance(30), rng);
+    let mut image = image_for(&d, &reading, rng);
+    let mut at = rng.below(image.len());
+    if rng.chance(20) {
+        spoil_image(&d, &mut image, rng);
+    }
+    if rng.chance(30) {
+        let length = rng.below(reading.len() + 1);
+        reading.truncate(length);
+    }
+    if rng.chance(20) {
+        let length = rng.below(image.len() + 1);
+        image.truncate(length);
+        at = length.max(rng.below(d.entries()));
+    }
+    if aim == 0 {
+        at %= image.len().max(1);
+        match image.get_mut(at) {
+            Some(entry) => *entry = rng.word(),
+            None => image.push(rng.word()),
+        }
+    } else if let Some(entry) = image.get_mut(at) {
+        *entry = NOT_GIVEN;
+    }
+    let i = if aim == 1 && rng.chance(10) {
+        number(64, rng) | 1 << 20
+    } else {
+        at as u64
+    };
+    // No record has a say in it.
+    if rng.chance(20) {
+        d.words = rng.u16();
+    }
+    let mut fields = record(&d, 0, rng);
+    fields.extend([image.into(), reading.into(), i.into()]);
+    fields
+}
+
 pub fn plan(name: &str, aim: u32, rng: &mut Rng) -> Vec<Field> {
     match name {
         "update" => update(aim, rng),
         "fresh" => fresh(aim, rng),
+        "wanted" => wanted(aim, rng),
         _ => {
             let d = if rng.chance(99) {
                 device_of_size(8, rng)

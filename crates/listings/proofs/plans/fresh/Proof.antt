@@ -1,4 +1,4 @@
--- One of the two programs.
+-- One of the four programs.
 use Rattle.print.specs.LawsPrint.{prints-as, printed}
 use Rattle.listings.specs.LawsPlans.{fresh-is}
 use Rattle.listings.specs.LawsBounds.{fresh-short}

@@ -1,91 +1,62 @@
--- What either planner answered, in a buffer that has room for it.
-use Rattle.print.specs.LawsPrint.{prints-as}
+-- What is left, or the stream: the planner had room for it.
 use mathlib.Core.Path.{_∙_}
+use Rattle.device.specs.LawsMemory.{reading-long}
+use Rattle.print.specs.LawsPrint.{prints-as}
 use Rattle.listings.specs.LawsPlanned.{plan-ready}
-use Rattle.listings.specs.LawsPlans.{plan-fresh, plan-update, fresh-few, update-few}
+use Rattle.listings.specs.LawsPlans.{end-left, end-stream, plan-few}
 use borrow.Author.Needs.{needs}
 use Rattle.listings.proofs.plans.put_planned.Statement.{statement}
 use Rattle.listings.proofs.plans.put_planned.Tie as tie
 
-cast-id-place : tie.Need-cast-id-place
-cast-id-place c = search needs
+slice-aggregate-ask-planner : tie.Need-slice-aggregate-ask-planner
+slice-aggregate-ask-planner c = search needs
 
-add-id-place : tie.Need-add-id-place
-add-id-place c = search needs
+ask-planner-requires : tie.Need-ask-planner-requires
+ask-planner-requires c κs = reading-long _ _ (c .before .before .before .before .pre .1)
 
-mul-fresh : tie.Need-mul-fresh
-mul-fresh c = search needs
-
-shared-slice-read-fresh : tie.Need-shared-slice-read-fresh
-shared-slice-read-fresh c = search needs
-
-slice-aggregate-fresh : tie.Need-slice-aggregate-fresh
-slice-aggregate-fresh c = search needs
-
-fresh-requires : tie.Need-fresh-requires
-fresh-requires c κs = search needs
-
-slice-aggregate-put-plan : tie.Need-slice-aggregate-put-plan
-slice-aggregate-put-plan c = search needs
-
-put-plan-requires : tie.Need-put-plan-requires
-put-plan-requires c κs = (
-  (plan-ready _ _ (fresh-few _ (c .before .before .before .before .before .before .before .before .before .before .before .pre .0) _) _ _
-      (c .before .before .before .fresh .ensures)) .within,
-  (plan-ready _ _ (fresh-few _ (c .before .before .before .before .before .before .before .before .before .before .before .pre .0) _) _ _ (c .before .before .before .fresh .ensures)) .short,
-)
+put-left-requires : tie.Need-put-left-requires
+put-left-requires c κs =
+    let p = c .before .before .before .before .before .before .before .before .pre in
+    let r = plan-ready _ _ (plan-few _ _ (p .0) _ _) _ _ (c .before .before .before .ask-planner .ensures) in
+    (p .0, p .1, r .number-is)
 
 same-length : tie.Need-same-length
 same-length c = search needs
 
 returns : tie.Need-returns
-returns c = prints-as _ _ _ _ _ ((plan-ready _ _ (fresh-few _
-    (c .before .before .before .before .before .before .before .before .before .before .before .before .before .before .pre .0) _) _ _
-    (c .before .before .before .before .before .before .fresh .ensures)) .text ∙ plan-fresh _ _ _ _
-    (c .before .before .before .before .before .before .before .before .before .before .if1 .taken)) (c .before .before .put-plan .ensures)
+returns c =
+    let p = c .before .before .before .before .before .before .before .before .before .before .before .pre in
+    let r = plan-ready _ _ (plan-few _ _ (p .0) _ _) _ _ (c .before .before .before .before .before .before .ask-planner .ensures) in
+    prints-as _ _ _ _ _ (end-left _ _ _ _ _ (c .before .before .before .before .if1 .taken) _ (r .number-is)) (c .before .before .put-left .ensures)
 
-slice-aggregate-update : tie.Need-slice-aggregate-update
-slice-aggregate-update c = search needs
+slice-aggregate-put-plan : tie.Need-slice-aggregate-put-plan
+slice-aggregate-put-plan c = search needs
 
-update-requires : tie.Need-update-requires
-update-requires c κs = search needs
-
-slice-aggregate-put-plan-2 : tie.Need-slice-aggregate-put-plan-2
-slice-aggregate-put-plan-2 c = search needs
-
-put-plan-requires-2 : tie.Need-put-plan-requires-2
-put-plan-requires-2 c κs = (
-  (plan-ready _ _ (update-few _ (c .before .before .before .before .before .before .before .before .before .pre .0) _ _) _ _
-      (c .before .before .before .update .ensures)) .within,
-  (plan-ready _ _ (update-few _ (c .before .before .before .before .before .before .before .before .before .pre .0) _ _) _ _ (c .before .before .before .update .ensures)) .short,
-)
+put-plan-requires : tie.Need-put-plan-requires
+put-plan-requires c κs =
+    let p = c .before .before .before .before .before .before .before .before .before .pre in
+    let r = plan-ready _ _ (plan-few _ _ (p .0) _ _) _ _ (c .before .before .before .before .ask-planner .ensures) in
+    (r .within, r .short)
 
 same-length-2 : tie.Need-same-length-2
 same-length-2 c = search needs
 
 returns-2 : tie.Need-returns-2
-returns-2 c = prints-as _ _ _ _ _ ((plan-ready _ _
-    (update-few _ (c .before .before .before .before .before .before .before .before .before .before .before .before .pre .0) _ _) _ _
-    (c .before .before .before .before .before .before .update .ensures)) .text ∙ plan-update _ _ _ _
-    (c .before .before .before .before .before .before .before .before .if1 .left)) (c .before .before .put-plan2 .ensures)
+returns-2 c =
+    let p = c .before .before .before .before .before .before .before .before .before .before .before .before .pre in
+    let r = plan-ready _ _ (plan-few _ _ (p .0) _ _) _ _ (c .before .before .before .before .before .before .before .ask-planner .ensures) in
+    prints-as _ _ _ _ _ (r .text ∙ end-stream _ _ _ _ _ (c .before .before .before .before .before .if1 .left)) (c .before .before .put-plan .ensures)
 
 pub put-planned-spec : {M : Type 1} → statement M
 put-planned-spec =
     tie.close
     (tie.spec
-    cast-id-place
-    add-id-place
-    mul-fresh
-    shared-slice-read-fresh
-    slice-aggregate-fresh
-    fresh-requires
-    slice-aggregate-put-plan
-    put-plan-requires
+    slice-aggregate-ask-planner
+    ask-planner-requires
+    put-left-requires
     same-length
     returns
-    slice-aggregate-update
-    update-requires
-    slice-aggregate-put-plan-2
-    put-plan-requires-2
+    slice-aggregate-put-plan
+    put-plan-requires
     same-length-2
     returns-2)

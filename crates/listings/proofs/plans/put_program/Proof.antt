@@ -17,8 +17,9 @@ same-length : tie.Need-same-length
 same-length c = search needs
 
 returns : tie.Need-returns
-returns c = prints-as _ _ _ _ _ (program-refused _ _ _ _ _ (c .before .before .before .before .before .before .open-board .ensures .0)
-    (c .before .before .before .before .if1 .taken)) (c .before .before .refusal .ensures)
+returns c =
+    prints-as _ _ _ _ _ (program-refused _ _ _ _ _ _ (c .before .before .before .before .before .before .open-board .ensures .0) (c .before .before .before .before .if1 .taken))
+    (c .before .before .refusal .ensures)
 
 refusal-requires-2 : tie.Need-refusal-requires-2
 refusal-requires-2 c κs = search needs
@@ -27,8 +28,10 @@ same-length-2 : tie.Need-same-length-2
 same-length-2 c = search needs
 
 returns-2 : tie.Need-returns-2
-returns-2 c = prints-as _ _ _ _ _ (program-long _ _ _ _ _ (c .before .before .before .before .before .before .before .open-board .ensures .0)
-    (c .before .before .before .before .before .if1 .left) (c .before .before .before .before .if2 .taken)) (c .before .before .refusal2 .ensures)
+returns-2 c =
+    let o = c .before .before .before .before .before .before .before .open-board .ensures in
+    prints-as _ _ _ _ _ (program-long _ _ _ _ _ _ (o .0) (c .before .before .before .before .before .if1 .left) (c .before .before .before .before .if2 .taken))
+    (c .before .before .refusal2 .ensures)
 
 cast-count : tie.Need-cast-count
 cast-count c = search needs
@@ -37,13 +40,18 @@ add-count : tie.Need-add-count
 add-count c = search needs
 
 array-borrow-prefix-image : tie.Need-array-borrow-prefix-image
-array-borrow-prefix-image c = other-room _ _ _ _ (board-opened _ _ _ (c .before .before .before .before .before .open-board .ensures .0)
-    (c .before .before .before .if1 .left) _ (c .before .before .before .before .before .open-board .ensures .1) _ (c .before .before .before .before .before .open-board .ensures .2)) 0xffff
+array-borrow-prefix-image c =
+    let o = c .before .before .before .before .before .open-board .ensures in
+    let z = c .before .before .before .if1 .left in
+    let b = board-opened _ _ _ (o .0) z _ (o .1) _ (o .2) in
+    other-room _ _ _ _ b 0xffff
 
 slice-aggregate-read-hex : tie.Need-slice-aggregate-read-hex
-slice-aggregate-read-hex c = sym (other-long _ _ _ _
-    (board-opened _ _ _ (c .before .before .before .before .before .before .open-board .ensures .0) (c .before .before .before .before .if1 .left) _
-    (c .before .before .before .before .before .before .open-board .ensures .1) _ (c .before .before .before .before .before .before .open-board .ensures .2)) 0xffff)
+slice-aggregate-read-hex c =
+    let o = c .before .before .before .before .before .before .open-board .ensures in
+    let z = c .before .before .before .before .if1 .left in
+    let b = board-opened _ _ _ (o .0) z _ (o .1) _ (o .2) in
+    sym (other-long _ _ _ _ b 0xffff)
 
 read-hex-requires : tie.Need-read-hex-requires
 read-hex-requires c κs = search needs
@@ -55,58 +63,70 @@ same-length-3 : tie.Need-same-length-3
 same-length-3 c = search needs
 
 returns-3 : tie.Need-returns-3
-returns-3 c = prints-as _ _ _ _ _ (program-hex _ _ _ _ _
-    (c .before .before .before .before .before .before .before .before .before .before .before .before .before .before .open-board .ensures .0)
-    (c .before .before .before .before .before .before .before .before .before .before .before .before .if1 .left) _ _
-    (board-opened _ _ _ (c .before .before .before .before .before .before .before .before .before .before .before .before .before .before .open-board .ensures .0)
-    (c .before .before .before .before .before .before .before .before .before .before .before .before .if1 .left) _
-    (c .before .before .before .before .before .before .before .before .before .before .before .before .before .before .open-board .ensures .1) _
-    (c .before .before .before .before .before .before .before .before .before .before .before .before .before .before .open-board .ensures .2))
-    (c .before .before .before .before .before .before .before .before .before .before .before .if2 .left) _
-    (other-long _ _ _ _ (board-opened _ _ _ (c .before .before .before .before .before .before .before .before .before .before .before .before .before .before .open-board .ensures .0) (c .before .before .before .before .before .before .before .before .before .before .before .before .if1 .left) _ (c .before .before .before .before .before .before .before .before .before .before .before .before .before .before .open-board .ensures .1) _ (c .before .before .before .before .before .before .before .before .before .before .before .before .before .before .open-board .ensures .2)) 0xffff) _ _ (c .before .before .before .before .before .before .before .read-hex .ensures) (c .before .before .before .before .if3 .taken)) (c .before .before .refusal3 .ensures)
+returns-3 c =
+    let o = c .before .before .before .before .before .before .before .before .before .before .before .before .before .before .open-board .ensures in
+    let z = c .before .before .before .before .before .before .before .before .before .before .before .before .if1 .left in
+    let b = board-opened _ _ _ (o .0) z _ (o .1) _ (o .2) in
+    let h = c .before .before .before .before .before .before .before .before .before .before .before .if2 .left in
+    let r = c .before .before .before .before .before .before .before .read-hex .ensures in
+    let y = c .before .before .before .before .if3 .taken in
+    prints-as _ _ _ _ _ (program-hex _ _ _ _ _ _ (o .0) z _ _ b h _ (other-long _ _ _ _ b 0xffff) _ _ r y) (c .before .before .refusal3 .ensures)
 
 array-share-prefix-image : tie.Need-array-share-prefix-image
-array-share-prefix-image c = program-within (c .before .before .before .before .before .before .before .before .before .before .before .before .before .before .before .before .args .fresh) _ _ _ _ (c .before .before .before .before .before .before .before .before .before .before .open-board .ensures .0) (c .before .before .before .before .before .before .before .before .if1 .left) _ _ (board-opened _ _ _ (c .before .before .before .before .before .before .before .before .before .before .open-board .ensures .0) (c .before .before .before .before .before .before .before .before .if1 .left) _ (c .before .before .before .before .before .before .before .before .before .before .open-board .ensures .1) _ (c .before .before .before .before .before .before .before .before .before .before .open-board .ensures .2)) (c .before .before .before .before .before .before .before .if2 .left) _ (other-long _ _ _ _ (board-opened _ _ _ (c .before .before .before .before .before .before .before .before .before .before .open-board .ensures .0) (c .before .before .before .before .before .before .before .before .if1 .left) _ (c .before .before .before .before .before .before .before .before .before .before .open-board .ensures .1) _ (c .before .before .before .before .before .before .before .before .before .before .open-board .ensures .2)) 0xffff) _ _ (c .before .before .before .read-hex .ensures) (c .if3 .left) _
+array-share-prefix-image c =
+    let a = c .before .before .before .before .before .before .before .before .before .before .before .before .before .before .before .before .args in
+    let o = c .before .before .before .before .before .before .before .before .before .before .open-board .ensures in
+    let z = c .before .before .before .before .before .before .before .before .if1 .left in
+    let b = board-opened _ _ _ (o .0) z _ (o .1) _ (o .2) in
+    let h = c .before .before .before .before .before .before .before .if2 .left in
+    let r = c .before .before .before .read-hex .ensures in
+    let y = c .if3 .left in
+    program-within (a .fresh) (a .left) _ _ _ _ (o .0) z _ _ b h _ (other-long _ _ _ _ b 0xffff) _ _ r y _
 
 slice-aggregate-put-planned : tie.Need-slice-aggregate-put-planned
-slice-aggregate-put-planned c = sym (program-front
-    (c .before .before .before .before .before .before .before .before .before .before .before .before .before .before .before .before .before .args .fresh) _ _ _ _
-    (c .before .before .before .before .before .before .before .before .before .before .before .open-board .ensures .0)
-    (c .before .before .before .before .before .before .before .before .before .if1 .left) _ _
-    (board-opened _ _ _ (c .before .before .before .before .before .before .before .before .before .before .before .open-board .ensures .0)
-    (c .before .before .before .before .before .before .before .before .before .if1 .left) _
-    (c .before .before .before .before .before .before .before .before .before .before .before .open-board .ensures .1) _
-    (c .before .before .before .before .before .before .before .before .before .before .before .open-board .ensures .2))
-    (c .before .before .before .before .before .before .before .before .if2 .left) _
-    (other-long _ _ _ _ (board-opened _ _ _ (c .before .before .before .before .before .before .before .before .before .before .before .open-board .ensures .0)
-    (c .before .before .before .before .before .before .before .before .before .if1 .left) _
-    (c .before .before .before .before .before .before .before .before .before .before .before .open-board .ensures .1) _
-    (c .before .before .before .before .before .before .before .before .before .before .before .open-board .ensures .2)) 0xffff) _ _ (c .before .before .before .before .read-hex .ensures) (c .before .if3 .left) _)
+slice-aggregate-put-planned c =
+    let a = c .before .before .before .before .before .before .before .before .before .before .before .before .before .before .before .before .before .args in
+    let o = c .before .before .before .before .before .before .before .before .before .before .before .open-board .ensures in
+    let z = c .before .before .before .before .before .before .before .before .before .if1 .left in
+    let b = board-opened _ _ _ (o .0) z _ (o .1) _ (o .2) in
+    let h = c .before .before .before .before .before .before .before .before .if2 .left in
+    let r = c .before .before .before .before .read-hex .ensures in
+    let y = c .before .if3 .left in
+    sym (program-front (a .fresh) (a .left) _ _ _ _ (o .0) z _ _ b h _ (other-long _ _ _ _ b 0xffff) _ _ r y _)
 
 array-share-prefix-reading : tie.Need-array-share-prefix-reading
-array-share-prefix-reading c = (board-opened _ _ _ (c .before .before .before .before .before .before .before .before .before .before .before .open-board .ensures .0)
-    (c .before .before .before .before .before .before .before .before .before .if1 .left) _
-    (c .before .before .before .before .before .before .before .before .before .before .before .open-board .ensures .1) _
-    (c .before .before .before .before .before .before .before .before .before .before .before .open-board .ensures .2)) .within
+array-share-prefix-reading c =
+    let o = c .before .before .before .before .before .before .before .before .before .before .before .open-board .ensures in
+    let z = c .before .before .before .before .before .before .before .before .before .if1 .left in
+    let b = board-opened _ _ _ (o .0) z _ (o .1) _ (o .2) in
+    b .within
 
 slice-aggregate-put-planned-2 : tie.Need-slice-aggregate-put-planned-2
-slice-aggregate-put-planned-2 c = sym ((board-opened _ _ _
-    (c .before .before .before .before .before .before .before .before .before .before .before .before .open-board .ensures .0)
-    (c .before .before .before .before .before .before .before .before .before .before .if1 .left) _
-    (c .before .before .before .before .before .before .before .before .before .before .before .before .open-board .ensures .1) _
-    (c .before .before .before .before .before .before .before .before .before .before .before .before .open-board .ensures .2)) .long)
+slice-aggregate-put-planned-2 c =
+    let o = c .before .before .before .before .before .before .before .before .before .before .before .before .open-board .ensures in
+    let z = c .before .before .before .before .before .before .before .before .before .before .if1 .left in
+    let b = board-opened _ _ _ (o .0) z _ (o .1) _ (o .2) in
+    sym (b .long)
 
 put-planned-requires : tie.Need-put-planned-requires
-put-planned-requires c κs = ((board-opened _ _ _ (c .before .before .before .before .before .before .before .before .before .before .before .before .before .open-board .ensures .0) (c .before .before .before .before .before .before .before .before .before .before .before .if1 .left) _ (c .before .before .before .before .before .before .before .before .before .before .before .before .before .open-board .ensures .1) _ (c .before .before .before .before .before .before .before .before .before .before .before .before .before .open-board .ensures .2)) .sound, (board-opened _ _ _ (c .before .before .before .before .before .before .before .before .before .before .before .before .before .open-board .ensures .0) (c .before .before .before .before .before .before .before .before .before .before .before .if1 .left) _ (c .before .before .before .before .before .before .before .before .before .before .before .before .before .open-board .ensures .1) _ (c .before .before .before .before .before .before .before .before .before .before .before .before .before .open-board .ensures .2)) .long)
+put-planned-requires c κs =
+    let o = c .before .before .before .before .before .before .before .before .before .before .before .before .before .open-board .ensures in
+    let z = c .before .before .before .before .before .before .before .before .before .before .before .if1 .left in
+    let b = board-opened _ _ _ (o .0) z _ (o .1) _ (o .2) in
+    (b .sound, b .good)
 
 same-length-4 : tie.Need-same-length-4
 same-length-4 c = search needs
 
 returns-4 : tie.Need-returns-4
-returns-4 c = prints-as _ _ _ _ _ (program-found _ _ _ _ _
-    (c .before .before .before .before .before .before .before .before .before .before .before .before .before .before .before .before .open-board .ensures .0)
-    (c .before .before .before .before .before .before .before .before .before .before .before .before .before .before .if1 .left) _ _
-    (board-opened _ _ _ (c .before .before .before .before .before .before .before .before .before .before .before .before .before .before .before .before .open-board .ensures .0) (c .before .before .before .before .before .before .before .before .before .before .before .before .before .before .if1 .left) _ (c .before .before .before .before .before .before .before .before .before .before .before .before .before .before .before .before .open-board .ensures .1) _ (c .before .before .before .before .before .before .before .before .before .before .before .before .before .before .before .before .open-board .ensures .2)) (c .before .before .before .before .before .before .before .before .before .before .before .before .before .if2 .left) _ (other-long _ _ _ _ (board-opened _ _ _ (c .before .before .before .before .before .before .before .before .before .before .before .before .before .before .before .before .open-board .ensures .0) (c .before .before .before .before .before .before .before .before .before .before .before .before .before .before .if1 .left) _ (c .before .before .before .before .before .before .before .before .before .before .before .before .before .before .before .before .open-board .ensures .1) _ (c .before .before .before .before .before .before .before .before .before .before .before .before .before .before .before .before .open-board .ensures .2)) 0xffff) _ _ (c .before .before .before .before .before .before .before .before .before .read-hex .ensures) (c .before .before .before .before .before .before .if3 .left) _) (c .before .before .put-planned .ensures)
+returns-4 c =
+    let o = c .before .before .before .before .before .before .before .before .before .before .before .before .before .before .before .before .open-board .ensures in
+    let z = c .before .before .before .before .before .before .before .before .before .before .before .before .before .before .if1 .left in
+    let b = board-opened _ _ _ (o .0) z _ (o .1) _ (o .2) in
+    let h = c .before .before .before .before .before .before .before .before .before .before .before .before .before .if2 .left in
+    let r = c .before .before .before .before .before .before .before .before .before .read-hex .ensures in
+    let y = c .before .before .before .before .before .before .if3 .left in
+    prints-as _ _ _ _ _ (program-found _ _ _ _ _ _ (o .0) z _ _ b h _ (other-long _ _ _ _ b 0xffff) _ _ r y _) (c .before .before .put-planned .ensures)
 
 pub put-program-spec : {M : Type 1} → statement M
 put-program-spec =

@@ -1,0 +1,1 @@
+// What a person does with the printed texts is what is proved of the streams: theorems only.
