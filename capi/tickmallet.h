@@ -7,8 +7,10 @@
    - A device record crosses by address: its five numbers stand in a row, in the order of the struct below.
 
    What the caller keeps; nothing else is asked, and each call judges the contents of what it gets
-   - every address is that of so many elements, aligned for their type, and is not null, also where the count is 0;
-   - what a call may change (an argument that is not const) overlaps no other argument of that call.
+   - No address is null, of a list neither where its count is 0, nor of a value that the caller does not want. Each is that of so many
+     elements, aligned for their type.
+   - What a call may change (an argument that is not const) overlaps no other argument of that call, const or not. Arguments that are const
+     may overlap each other.
 
    Words have 14 bits, 0000h to 3FFFh. P is the record's program words, R its row words.
    - an image has P+9 entries, each a word or FFFFh for 'not given': entry i is word i, entry P+k is word 8000h+k; 8004h to 8006h are never given;
@@ -20,6 +22,8 @@
 
 #ifndef TICKMALLET_H
 #define TICKMALLET_H
+
+#define TICKMALLET_VERSION "0.1.0"
 
 #include <stddef.h>
 #include <stdint.h>
@@ -35,8 +39,31 @@ typedef struct {
     uint16_t id, words, row, mask1, mask2;
 } tickmallet_device;
 
-/* The most steps that an update or a fresh stream takes; a step is three bytes. A read-back takes 2P + 18. */
-#define TICKMALLET_MOST_STEPS(P, R) (2 * (size_t)(P) + 2 * (size_t)(P) / (R) + 22)
+/* How long each list is, and how long a buffer must be for the call not to answer 26, for a record that keeps the rules. Each is a
+   constant expression where P and R are, so that it can be the size of an array; P and R are evaluated more than once. A buffer for
+   every device is that of P = TICKMALLET_MOST_WORDS and R = 8. Lengths and bounds are proved (README.md beside this file names each
+   theorem); those that are not reached say so. */
+#define TICKMALLET_MOST_WORDS 8192       /* P of the largest device */
+#define TICKMALLET_MOST_HEX_READ 131072  /* bytes of HEX text that read_hex takes */
+
+#define TICKMALLET_IMAGE_WORDS(P) ((size_t)(P) + 9)    /* entries of an image, just so many */
+#define TICKMALLET_READING_WORDS(P) ((size_t)(P) + 9)  /* words of a reading, just so many */
+#define TICKMALLET_CELLS(P) ((size_t)(P) + 11)         /* words of the model's cells, just so many */
+
+/* An update or a fresh stream takes at most so many steps and bytes. */
+#define TICKMALLET_MOST_STEPS(P, R) (2 * (size_t)(P) + 2 * ((size_t)(P) / (R)) + 22)
+#define TICKMALLET_STREAM_BYTES(P, R) (3 * TICKMALLET_MOST_STEPS(P, R))
+
+/* A read-back takes just so many steps and bytes, and reads so many words. */
+#define TICKMALLET_READ_BACK_STEPS(P) (2 * (size_t)(P) + 18)
+#define TICKMALLET_READ_BACK_BYTES(P) (3 * TICKMALLET_READ_BACK_STEPS(P))
+#define TICKMALLET_READ_BACK_WORDS(P) ((size_t)(P) + 9)
+
+/* A sheet has just so many bytes. */
+#define TICKMALLET_SHEET_BYTES(P) (5 + 45 * ((size_t)(P) / 8) + 50)
+
+/* HEX text that write_hex writes has at most so many bytes. This much is proved; the longest text that was found has 17 P / 2 + 96. */
+#define TICKMALLET_HEX_BYTES(P) (14 * (size_t)(P) + 156)
 
 /* Looks an ID up in the text of a device table, which is judged whole.
    15: the table is malformed. 16: it has no such ID. Else 0, the record, and the place and length of its name in the text. */
@@ -51,7 +78,7 @@ uint8_t tickmallet_read_id(const uint8_t *text, size_t text_count, uint16_t *id)
 uint8_t tickmallet_read_sheet(const tickmallet_device *device, const uint8_t *text, size_t text_count,
                               uint16_t *reading, size_t reading_count);
 
-/* Writes the sheet of a reading and stores its length, 55 + 45 P / 8 bytes. 13; 21: not a reading; 26: the buffer is too short. */
+/* Writes the sheet of a reading and stores its length. 13; 21: not a reading; 26: the buffer is too short. */
 uint8_t tickmallet_write_sheet(const tickmallet_device *device, const uint16_t *reading, size_t reading_count,
                                uint8_t *out, size_t out_count, size_t *length);
 

@@ -9,5 +9,6 @@ int fclose(FILE *);
 size_t fread(void *, size_t, size_t, FILE *);
 int fflush(FILE *);
 int printf(const char *, ...);
+int snprintf(char *, size_t, const char *, ...);
 int fprintf(FILE *, const char *, ...);
 #endif

@@ -1,7 +1,7 @@
-/* The update and the fresh stream in plain C. */
+/* The three streams in plain C. */
 #include "plain_common.h"
 
-enum { LOAD_CONFIGURATION = 0x00, LOAD_DATA = 0x02, INCREMENT = 0x06, BEGIN = 0x08, BULK_ERASE = 0x09, ROW_ERASE = 0x11, RESET = 0x16 };
+enum { LOAD_CONFIGURATION = 0x00, LOAD_DATA = 0x02, READ = 0x04, INCREMENT = 0x06, BEGIN = 0x08, BULK_ERASE = 0x09, ROW_ERASE = 0x11, RESET = 0x16 };
 
 struct plan {
     const uint16_t *image, *reading; /* no reading: every word is erased */
@@ -147,6 +147,30 @@ uint8_t plain_fresh(const tickmallet_device *device, const uint16_t *image, size
     if (out_count < 3 * need)
         return 26;
     put_body(put(put(put(out, LOAD_CONFIGURATION, 2 * ERASED), BULK_ERASE, 0), RESET, 0), &p);
+    *steps = need;
+    return 0;
+}
+
+/* So many reads, with Increments between. */
+static uint8_t *put_reads(uint8_t *to, size_t count)
+{
+    for (size_t i = 0; i < count; i++) {
+        if (i)
+            to = put(to, INCREMENT, 0);
+        to = put(to, READ, 0);
+    }
+    return to;
+}
+
+uint8_t plain_read_back(const tickmallet_device *device, uint8_t *out, size_t out_count, size_t *steps)
+{
+    *steps = 0;
+    if (!device_ok(device))
+        return 13;
+    size_t need = 2 * (size_t)device->words + 18;
+    if (out_count < 3 * need)
+        return 26;
+    put_reads(put(put_reads(put(out, RESET, 0), device->words), LOAD_CONFIGURATION, 2 * ERASED), 9);
     *steps = need;
     return 0;
 }

@@ -6,7 +6,7 @@
 
 static uint64_t seed = 0x9e3779b97f4a7c15u;
 
-static uint32_t number(void)
+static inline uint32_t number(void)
 {
     seed ^= seed << 13;
     seed ^= seed >> 7;
@@ -14,12 +14,12 @@ static uint32_t number(void)
     return (uint32_t)(seed >> 24);
 }
 
-static uint32_t below(uint32_t n)
+static inline uint32_t below(uint32_t n)
 {
     return number() % n;
 }
 
-static uint16_t word(void)
+static inline uint16_t word(void)
 {
     return (uint16_t)below(0x4000);
 }

@@ -1,0 +1,115 @@
+/* The sizes in tickmallet.h: what is said to be just so long is, and each bound is reached where it can be. */
+#include <string.h>
+
+#include "agree.h"
+
+enum { P = TICKMALLET_MOST_WORDS };
+
+/* arrays of these sizes, as a program would have them */
+static uint16_t image[TICKMALLET_IMAGE_WORDS(P)], reading[TICKMALLET_READING_WORDS(P)], cells[TICKMALLET_CELLS(P)], words[TICKMALLET_READ_BACK_WORDS(P)];
+static uint8_t stream[TICKMALLET_STREAM_BYTES(P, 8)], reads[TICKMALLET_READ_BACK_BYTES(P)], sheet[TICKMALLET_SHEET_BYTES(P)], hex[TICKMALLET_HEX_BYTES(P)];
+
+/* A board that is 3FFFh all over, and an image that gives another value to every word that can be given. */
+static void all_different(size_t p)
+{
+    for (size_t i = 0; i < p + 9; i++) {
+        image[i] = i >= p + 4 && i < p + 7 ? 0xffff : 0x1580;
+        reading[i] = 0x3fff;
+    }
+    reading[p + 6] = 0x3023;
+}
+
+static void streams(const tickmallet_device *d)
+{
+    size_t p = d->words, r = d->row, steps, done, words_read;
+    all_different(p);
+    holds(tickmallet_update(d, image, p + 9, reading, p + 9, stream, TICKMALLET_STREAM_BYTES(p, r), &steps) == 0 && steps == TICKMALLET_MOST_STEPS(p, r),
+          "an update of every word takes TICKMALLET_MOST_STEPS");
+    holds(tickmallet_fresh(d, image, p + 9, d->id, stream, TICKMALLET_STREAM_BYTES(p, r), &steps) == 0 && steps == 2 * p + p / r + 23 &&
+              steps <= TICKMALLET_MOST_STEPS(p, r),
+          "a fresh stream of every word takes 2P + P/R + 23 steps");
+    holds(p != r || steps == TICKMALLET_MOST_STEPS(p, r), "where P = R that is TICKMALLET_MOST_STEPS");
+    holds(tickmallet_read_back(d, reads, TICKMALLET_READ_BACK_BYTES(p), &steps) == 0 && steps == TICKMALLET_READ_BACK_STEPS(p),
+          "a read-back takes TICKMALLET_READ_BACK_STEPS");
+    memcpy(cells, reading, 2 * (p + 9));
+    cells[p + 9] = cells[p + 10] = 0x3fff;
+    holds(tickmallet_run(d, cells, TICKMALLET_CELLS(p), reads, 3 * steps, steps, words, TICKMALLET_READ_BACK_WORDS(p), &done, &words_read) == 0 &&
+              words_read == TICKMALLET_READ_BACK_WORDS(p) && !memcmp(words, reading, 2 * (p + 9)),
+          "it reads TICKMALLET_READ_BACK_WORDS, the reading");
+    holds(tickmallet_run(d, cells, TICKMALLET_CELLS(p), reads, 3 * steps, steps, words, TICKMALLET_READ_BACK_WORDS(p) - 1, &done, &words_read) == 35,
+          "it does not go into less");
+}
+
+static void sheets(const tickmallet_device *d)
+{
+    size_t p = d->words, length;
+    all_different(p);
+    holds(tickmallet_write_sheet(d, reading, TICKMALLET_READING_WORDS(p), sheet, TICKMALLET_SHEET_BYTES(p), &length) == 0 && length == TICKMALLET_SHEET_BYTES(p),
+          "a sheet has TICKMALLET_SHEET_BYTES");
+    holds(tickmallet_write_sheet(d, reading, TICKMALLET_READING_WORDS(p), sheet, TICKMALLET_SHEET_BYTES(p) - 1, &length) == 26, "it does not go into less");
+    holds(tickmallet_read_sheet(d, sheet, TICKMALLET_SHEET_BYTES(p), reading, TICKMALLET_READING_WORDS(p)) == 0, "it is read into TICKMALLET_READING_WORDS");
+}
+
+/* Of eight words five are given, in four runs: no block takes more text. In the last block two user IDs stand together. */
+static void longest_hex(size_t p)
+{
+    for (size_t i = 0; i < p + 9; i++)
+        image[i] = 0x1234;
+    for (size_t i = 0; i < p; i += 8)
+        image[i + 1] = image[i + 3] = image[i + 5] = 0xffff;
+    image[p + 1] = image[p + 4] = image[p + 5] = image[p + 6] = 0xffff;
+}
+
+static void hexes(const tickmallet_device *d)
+{
+    size_t p = d->words, length;
+    uint32_t line;
+    all_different(p);
+    holds(tickmallet_write_hex(d, image, TICKMALLET_IMAGE_WORDS(p), hex, TICKMALLET_HEX_BYTES(p), &length) == 0 && length <= TICKMALLET_HEX_BYTES(p),
+          "a whole image is written in TICKMALLET_HEX_BYTES");
+    longest_hex(p);
+    holds(tickmallet_write_hex(d, image, TICKMALLET_IMAGE_WORDS(p), hex, TICKMALLET_HEX_BYTES(p), &length) == 0 && length == 17 * p / 2 + 96 &&
+              length <= TICKMALLET_HEX_BYTES(p),
+          "the longest text that was found has 17P/2 + 96 bytes");
+    holds(tickmallet_read_hex(d, hex, length, image, TICKMALLET_IMAGE_WORDS(p), &line) == 0, "it is read into TICKMALLET_IMAGE_WORDS");
+}
+
+/* One more or one less than just so many is refused. */
+static void lists(const tickmallet_device *d)
+{
+    static uint16_t longer[TICKMALLET_CELLS(P) + 1];
+    size_t p = d->words, a, b;
+    uint16_t sum;
+    memset(longer, 0, sizeof longer);
+    for (size_t n = p; n < p + 13; n++) {
+        holds((tickmallet_checksum(d, longer, n, &sum) == 0) == (n == TICKMALLET_READING_WORDS(p)), "a reading has TICKMALLET_READING_WORDS");
+        holds((tickmallet_run(d, longer, n, reads, 0, 0, words, 0, &a, &b) == 0) == (n == TICKMALLET_CELLS(p)), "cells are TICKMALLET_CELLS");
+    }
+    memset(longer, 0xff, sizeof longer);
+    for (size_t n = p; n < p + 13; n++)
+        holds((tickmallet_write_hex(d, longer, n, hex, TICKMALLET_HEX_BYTES(p), &a) == 0) == (n == TICKMALLET_IMAGE_WORDS(p)), "an image has TICKMALLET_IMAGE_WORDS");
+}
+
+static void limits(void)
+{
+    tickmallet_device d = {0x3023, P, 8, 0x3eff, 0x3ff3}, more = {0x3023, P + 8, 8, 0x3eff, 0x3ff3};
+    size_t steps;
+    holds(tickmallet_read_back(&d, reads, sizeof reads, &steps) == 0, "P may be TICKMALLET_MOST_WORDS");
+    holds(tickmallet_read_back(&more, reads, sizeof reads, &steps) == 13, "P may not be more");
+    holds(TICKMALLET_MOST_STEPS(P, 8) == 18454 && sizeof stream == 55362 && sizeof reads == 49206, "streams of the largest device");
+    holds(sizeof sheet == 46135 && sizeof hex == 114844, "texts of the largest device");
+}
+
+void agree_bounds(void)
+{
+    static const tickmallet_device devices[8] = {
+        {0x3023, 8, 8, 0x3eff, 0x3ff3},  {0x3023, 16, 8, 0x3eff, 0x3ff3}, {0x3023, 16, 16, 0x3eff, 0x3ff3}, {0x3023, 32, 32, 0x3eff, 0x3ff3},
+        {0x3023, 96, 32, 0x3eff, 0x3ff3}, {0x3023, P, 8, 0x3eff, 0x3ff3},  {0x3023, P, 16, 0x3eff, 0x3ff3},  {0x3023, P, 32, 0x3eff, 0x3ff3}};
+    for (int i = 0; i < 8; i++) {
+        streams(&devices[i]);
+        sheets(&devices[i]);
+        hexes(&devices[i]);
+        lists(&devices[i]);
+    }
+    limits();
+}

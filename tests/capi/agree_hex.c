@@ -1,0 +1,139 @@
+/* HEX text, read and written. */
+#include <string.h>
+
+#include "agree.h"
+#include "random.h"
+
+static uint8_t text[MOST_BYTES + 8];
+
+static void read_hex(const tickmallet_device *d, const uint8_t *from, size_t n, size_t count)
+{
+    begin(0, count, 0);
+    proved.number = tickmallet_read_hex(d, from, n, proved.words, count, &proved.line);
+    plain.number = plain_read_hex(d, from, n, plain.words, count, &plain.line);
+    end(READ_HEX);
+}
+
+/* ---- text that is nearly sound */
+
+static size_t put_line(uint8_t *to, const uint8_t *bytes, size_t count)
+{
+    static const char digits[2][17] = {"0123456789ABCDEF", "0123456789abcdef"};
+    const char *of = digits[!below(4)];
+    size_t n = 0;
+    to[n++] = ':';
+    for (size_t i = 0; i < count; i++) {
+        to[n++] = (uint8_t)of[bytes[i] >> 4];
+        to[n++] = (uint8_t)of[bytes[i] & 15];
+    }
+    for (uint32_t cr = below(8) == 0 ? 1 + !below(8) : 0; cr; cr--) /* one belongs to the end, two do not */
+        to[n++] = '\r';
+    to[n++] = '\n';
+    return n;
+}
+
+static size_t put_sum(uint8_t *bytes, size_t n)
+{
+    unsigned sum = 0;
+    for (size_t i = 0; i < n; i++)
+        sum += bytes[i];
+    bytes[n] = (uint8_t)(-sum - !below(60));
+    return n + 1;
+}
+
+/* Data where it may lie under this upper half, near the edges too. */
+static size_t data_bytes(uint8_t *bytes, size_t p, unsigned upper)
+{
+    static const uint16_t edges[5] = {0xfffe, 0x3ffe, 0x4000, 0x8000, 1};
+    size_t words = below(16) ? below(6) : below(128), n = 4;
+    unsigned address = 2 * below(upper == 1 ? 12 : (uint32_t)p + 2);
+    if (!below(20))
+        address = edges[below(5)];
+    bytes[0] = (uint8_t)(2 * words), bytes[1] = (uint8_t)(address >> 8), bytes[2] = (uint8_t)address, bytes[3] = 0;
+    for (size_t i = 0; i < words; i++) {
+        unsigned w = below(80) ? word() : 0x4000 + below(0xc000);
+        bytes[n++] = (uint8_t)w;
+        bytes[n++] = (uint8_t)(w >> 8);
+    }
+    return n;
+}
+
+static size_t upper_bytes(uint8_t *bytes, unsigned *upper)
+{
+    static const uint16_t uppers[5] = {1, 1, 0, 0xffff, 2};
+    *upper = uppers[below(5)];
+    bytes[0] = 2, bytes[1] = bytes[2] = 0, bytes[3] = 4, bytes[4] = (uint8_t)(*upper >> 8), bytes[5] = (uint8_t)*upper;
+    return 6;
+}
+
+static size_t any_record(uint8_t *to, size_t p, unsigned *upper)
+{
+    uint8_t bytes[300] = {0, 0, 0, 1};
+    uint32_t type = below(12);
+    size_t n = type == 0 ? 4 : type < 3 ? upper_bytes(bytes, upper) : data_bytes(bytes, p, *upper);
+    if (!below(30))
+        bytes[below(4)] ^= (uint8_t)(1 << below(8));
+    return put_line(to, bytes, put_sum(bytes, n));
+}
+
+static size_t any_text(uint8_t *to, size_t p)
+{
+    size_t n = 0;
+    unsigned upper = 0;
+    for (uint32_t records = below(6); records; records--) {
+        n += any_record(to + n, p, &upper);
+        if (!below(10))
+            to[n++] = '\n';
+    }
+    if (below(10)) {
+        memcpy(to + n, ":00000001FF\n", 12);
+        n += below(10) ? 12 : 11;
+    }
+    if (n && !below(20))
+        to[below((uint32_t)n)] = (uint8_t)":0g\n\rF"[below(6)];
+    return n;
+}
+
+/* ---- both directions */
+
+/* What is written of an image, one character changed now and then. */
+static void read_written(const struct board *b, size_t n)
+{
+    if (n && below(2))
+        text[below((uint32_t)n)] = (uint8_t)":0g\n\rF8"[below(7)];
+    read_hex(&b->device, text, n, b->words + 9);
+}
+
+void agree_hex(const struct board *b)
+{
+    size_t p = b->words, count = about(p + 9), at = below(8), need = 0;
+    read_hex(&b->device, text + at, any_text(text + at, p), count); /* a text begins at any address */
+
+    uint8_t number = plain_write_hex(&b->device, b->image, p + 9, text, MOST_BYTES, &need);
+    size_t room = some_room(need);
+    count = about(p + 9);
+    begin(room, 0, 0);
+    proved.number = tickmallet_write_hex(&b->device, b->image, count, proved.bytes, room, &proved.a);
+    plain.number = plain_write_hex(&b->device, b->image, count, plain.bytes, room, &plain.a);
+    end(WRITE_HEX);
+    if (number == 0)
+        read_written(b, need);
+}
+
+/* The longest text that is taken, and one byte more; and a line that is longer than any record. */
+void agree_long_hex(void)
+{
+    static const tickmallet_device d = {0x2a00, 16, 8, 0x3eff, 0x3ff3};
+    const size_t most = TICKMALLET_MOST_HEX_READ;
+    memset(text, '\n', sizeof text);
+    memcpy(text + most - 12, ":00000001FF", 11);
+    for (int i = 0; i < 4; i++)
+        read_hex(&d, text, most, 25);
+    for (int i = 0; i < 200; i++)
+        read_hex(&d, text, most + 1, 25);
+    memset(text, '0', most);
+    text[0] = ':';
+    for (size_t n = 500; n < 540; n++)
+        read_hex(&d, text, n, 25);
+    read_hex(&d, text, most, 25);
+}

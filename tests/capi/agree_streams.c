@@ -1,0 +1,126 @@
+/* The three streams, and runs of them and of others. */
+#include <string.h>
+
+#include "agree.h"
+#include "random.h"
+
+static uint8_t stream[MOST_BYTES];
+
+static void run(const struct board *b, size_t n, size_t allowance, size_t room)
+{
+    size_t count = about(b->words + 11);
+    begin(0, room, count);
+    memcpy(proved.cells, b->reading, 2 * count);
+    memcpy(plain.cells, b->reading, 2 * count);
+    proved.number = tickmallet_run(&b->device, proved.cells, count, stream, n, allowance, proved.words, room, &proved.a, &proved.b);
+    plain.number = plain_run(&b->device, plain.cells, count, stream, n, allowance, plain.words, room, &plain.a, &plain.b);
+    end(RUN);
+}
+
+/* A planned stream: all of it, or as far as an allowance goes. */
+static void run_planned(const struct board *b, size_t steps)
+{
+    size_t allowance = below(4) ? steps + below(2) : below((uint32_t)steps + 1);
+    memcpy(stream, proved.bytes, 3 * steps);
+    run(b, 3 * steps, allowance, below(4) ? b->words + 9 : b->words + 8 + below(3));
+}
+
+/* ---- streams that nobody planned */
+
+static size_t put(size_t at, unsigned code, unsigned payload)
+{
+    stream[at] = (uint8_t)code, stream[at + 1] = (uint8_t)payload, stream[at + 2] = (uint8_t)(payload >> 8);
+    return at + 3;
+}
+
+static size_t put_walk(size_t at, size_t steps)
+{
+    for (; steps; steps--)
+        at = put(at, 0x06, 0);
+    return at;
+}
+
+static size_t any_steps(size_t at, size_t steps)
+{
+    static const uint8_t codes[10] = {0x00, 0x02, 0x02, 0x04, 0x06, 0x06, 0x08, 0x09, 0x11, 0x16};
+    for (; steps; steps--) {
+        unsigned code = codes[below(10)], payload = code < 4 ? 2u * word() : 0;
+        if (!below(200))
+            payload ^= 1u << below(16);
+        if (!below(300))
+            code = below(256);
+        at = put(at, code, payload);
+        if (!below(6))
+            at = put_walk(at, below(12));
+    }
+    return at;
+}
+
+static void run_any(const struct board *b)
+{
+    size_t n = any_steps(0, below(60)) + !below(40) * (1 + below(2));
+    run(b, n, below(4) ? n : below((uint32_t)n + 1), below(8) ? b->words + 9 : below(4));
+}
+
+/* The counter goes round in each space: 7FFFh to 0000h, FFFFh to 8000h. */
+void agree_long_streams(void)
+{
+    static struct board b;
+    for (int i = 0; i < 24; i++) {
+        if (i % 4)
+            small_board(&b);
+        else
+            large_board(&b);
+        size_t n = put(0, i % 2 ? 0x00 : 0x16, i % 2 ? 2u * word() : 0);
+        n = any_steps(put_walk(n, 0x7ffe + below(12)), 8);
+        run(&b, n, n, 8);
+    }
+}
+
+/* ---- planners */
+
+static void update(const struct board *b)
+{
+    size_t p = b->words, image_count = about(p + 9), count = about(p + 9), need = 0;
+    plain_update(&b->device, b->image, p + 9, b->reading, p + 9, stream, MOST_BYTES, &need);
+    size_t room = some_room(3 * need);
+    begin(room, 0, 0);
+    proved.number = tickmallet_update(&b->device, b->image, image_count, b->reading, count, proved.bytes, room, &proved.a);
+    plain.number = plain_update(&b->device, b->image, image_count, b->reading, count, plain.bytes, room, &plain.a);
+    end(UPDATE);
+    if (proved.number == 0)
+        run_planned(b, proved.a);
+}
+
+static void fresh(const struct board *b)
+{
+    size_t p = b->words, count = about(p + 9), need = 0;
+    uint16_t id = below(20) ? b->device.id : word();
+    plain_fresh(&b->device, b->image, p + 9, id, stream, MOST_BYTES, &need);
+    size_t room = some_room(3 * need);
+    begin(room, 0, 0);
+    proved.number = tickmallet_fresh(&b->device, b->image, count, id, proved.bytes, room, &proved.a);
+    plain.number = plain_fresh(&b->device, b->image, count, id, plain.bytes, room, &plain.a);
+    end(FRESH);
+    if (proved.number == 0)
+        run_planned(b, proved.a);
+}
+
+static void read_back(const struct board *b)
+{
+    size_t room = some_room(TICKMALLET_READ_BACK_BYTES(b->words));
+    begin(room, 0, 0);
+    proved.number = tickmallet_read_back(&b->device, proved.bytes, room, &proved.a);
+    plain.number = plain_read_back(&b->device, plain.bytes, room, &plain.a);
+    end(READ_BACK);
+    if (proved.number == 0)
+        run_planned(b, proved.a);
+}
+
+void agree_streams(const struct board *b)
+{
+    update(b);
+    fresh(b);
+    read_back(b);
+    run_any(b);
+}

@@ -1,0 +1,85 @@
+#include "inputs.h"
+#include "random.h"
+
+size_t about(size_t n)
+{
+    return below(20) ? n : n - 1 + 2 * below(2);
+}
+
+size_t some_room(size_t need)
+{
+    switch (below(8)) {
+    case 0: return need;
+    case 1: return need ? need - 1 : 0;
+    case 2: return need + 1;
+    case 3: return below((uint32_t)need + 1);
+    case 4: return 0;
+    default: return need + 40;
+    }
+}
+
+/* Breaks one rule of a record, or hits a number beside it that keeps them all. */
+static void damage(tickmallet_device *d)
+{
+    static const uint16_t rows[12] = {0, 1, 4, 7, 9, 12, 15, 24, 31, 33, 64, 256}, words[6] = {0, 4, 8200, 8224, 16384, 65535};
+    switch (below(8)) {
+    case 0: d->row = rows[below(12)]; break;
+    case 1: d->row = (uint16_t)(8u << below(3)); break;
+    case 2: d->words = words[below(6)]; break;
+    case 3: d->words = (uint16_t)(d->words - 8 + below(17)); break;
+    case 4: d->id |= (uint16_t)(0x4000 << below(2)); break;
+    case 5: d->mask1 ^= 0x80; break;
+    case 6: d->mask1 |= (uint16_t)(0x4000 << below(2)); break;
+    case 7: d->mask2 |= (uint16_t)(0x4000 << below(2)); break;
+    }
+}
+
+static void any_reading(struct board *b)
+{
+    size_t p = b->words;
+    for (size_t i = 0; i < p + 11; i++)
+        b->reading[i] = below(3) ? word() : 0x3fff;
+    b->reading[p + 6] = below(20) ? b->device.id : word();
+    b->reading[p + 7] |= below(8) ? 0x80 : 0;
+    if (!below(20))
+        b->reading[below((uint32_t)p + 11)] = (uint16_t)(below(2) ? 0x4000 : 0xffff);
+}
+
+static void any_image(struct board *b)
+{
+    size_t p = b->words;
+    uint32_t given = below(10); /* of eight words; 0: none, 8 and 9: all */
+    for (size_t i = 0; i < p + 9; i++)
+        b->image[i] = below(8) < given && !(i >= p + 4 && i < p + 7) ? word() : 0xffff;
+    if (below(2)) /* keep configuration bits, so that an update is not refused with 24 nearly always */
+        for (size_t i = p + 7; i < p + 9; i++)
+            b->image[i] = below(2) ? 0xffff : b->reading[i] & word();
+    if (!below(20))
+        b->image[below((uint32_t)p + 9)] = (uint16_t)(below(2) ? 0x4000 : 0x1234);
+}
+
+static void fill_board(struct board *b, const tickmallet_device *sound)
+{
+    b->device = *sound;
+    b->words = sound->words;
+    any_reading(b);
+    any_image(b);
+    b->image[b->words + 9] = b->image[b->words + 10] = 0xffff;
+    if (!below(12))
+        damage(&b->device);
+}
+
+void small_board(struct board *b)
+{
+    static const tickmallet_device sound[9] = {
+        {0x2a00, 16, 8, 0x3eff, 0x3ff3}, {0x3023, 64, 16, 0x3eff, 0x3ff3}, {0x3024, 32, 32, 0x0080, 0x3fff},
+        {0x0000, 8, 8, 0x3fff, 0x0000},  {0x3fff, 16, 16, 0x3eff, 0x3ff3}, {0x1abc, 24, 8, 0x2080, 0x1001},
+        {0x00ff, 96, 32, 0x3eff, 0x3ff3}, {0x2b01, 48, 16, 0x3eff, 0x3ff3}, {0x2a00, 64, 32, 0x3eff, 0x3ff3}};
+    fill_board(b, &sound[below(9)]);
+}
+
+void large_board(struct board *b)
+{
+    tickmallet_device sound = {0x3023, TICKMALLET_MOST_WORDS, (uint16_t)(8u << below(3)), 0x3eff, 0x3ff3};
+    fill_board(b, &sound);
+}
