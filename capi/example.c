@@ -9,11 +9,11 @@
 
 #include "tickmallet.h"
 
-enum { MOST_WORDS = 8192, MOST_TABLE = 4096, MOST_TEXT = 65536 };
+/* P and R of the largest device and the shortest rows: room for every record that a table can give */
+enum { P = TICKMALLET_MOST_WORDS, R = 8, MOST_TABLE = 4096, MOST_TEXT = 65536 };
 
-static uint8_t table[MOST_TABLE + 1], sheet[MOST_TEXT + 1], hex[MOST_TEXT + 1];
-static uint16_t reading[MOST_WORDS + 9], image[MOST_WORDS + 9], cells[MOST_WORDS + 11];
-static uint8_t stream[3 * TICKMALLET_MOST_STEPS(MOST_WORDS, 8)];
+static uint8_t table[MOST_TABLE + 1], sheet[MOST_TEXT + 1], hex[MOST_TEXT + 1], stream[TICKMALLET_STREAM_BYTES(P, R)];
+static uint16_t reading[TICKMALLET_READING_WORDS(P)], image[TICKMALLET_IMAGE_WORDS(P)], cells[TICKMALLET_CELLS(P)];
 
 /* The bytes of a file; a file that can't be opened counts as empty, and one byte too many tells that it is too long. */
 static size_t load(const char *name, uint8_t *to, size_t room)
@@ -30,6 +30,11 @@ static int refused(unsigned number, unsigned line)
 {
     printf("refused\t%u\t%u\n", number, line);
     return 1;
+}
+
+static const char *plural(size_t n)
+{
+    return n == 1 ? "" : "s";
 }
 
 int main(int argc, char **argv)
@@ -56,7 +61,7 @@ int main(int argc, char **argv)
         return refused(found, 0);
 
     /* what the board holds, and what the file gives */
-    size_t count = device.words + 9u;
+    size_t count = TICKMALLET_READING_WORDS(device.words);
     uint8_t number = sheet_count <= MOST_TEXT ? tickmallet_read_sheet(&device, sheet, sheet_count, reading, count) : 14;
     if (number)
         return refused(number, 0);
@@ -69,19 +74,19 @@ int main(int argc, char **argv)
     number = tickmallet_update(&device, image, count, reading, count, stream, sizeof stream, &steps);
     if (number)
         return refused(number, 0);
-    printf("%.*s: %zu steps\n", (int)name_len, (const char *)table + name_at, steps);
+    printf("%.*s: %zu step%s\n", (int)name_len, (const char *)table + name_at, steps, plural(steps));
 
     /* the model holds the reading, and calibration words that nothing changes */
     memcpy(cells, reading, count * sizeof *cells);
     cells[count] = cells[count + 1] = 0x3fff;
     uint16_t none;
     size_t done, words_read;
-    number = tickmallet_run(&device, cells, count + 2, stream, 3 * steps, steps, &none, 0, &done, &words_read);
+    number = tickmallet_run(&device, cells, TICKMALLET_CELLS(device.words), stream, 3 * steps, steps, &none, 0, &done, &words_read);
     if (number)
         return refused(number, 0);
     size_t changed = 0;
     for (size_t i = 0; i < count; i++)
         changed += cells[i] != reading[i];
-    printf("%zu words changed\n", changed);
+    printf("%zu word%s changed\n", changed, plural(changed));
     return 0;
 }

@@ -1,4 +1,5 @@
-/* Tickmallet for C: the calls of target/staticlib/libcapi.a, which `rt staticlib capi` proves and builds for x86-64.
+/* Tickmallet for C: the calls of libcapi.a, which `rt staticlib capi` proves and builds for x86-64, and which is libtickmallet.a where
+   capi/install has put it.
 
    How values cross
    - A call returns its number: 0, or the refusal as the paper counts it (verify also 40 and 41).
@@ -33,16 +34,15 @@ extern "C" {
 #endif
 
 /* A device: its ID word, program words P, row words R, and the masks of the two configuration words.
-   The rules, which every call judges first (13): R is 8, 16 or 32; P is a multiple of R, from R to 8192; the ID and both masks are at
-   most 3FFFh; mask1 has bit 7 set. */
+   The rules, which every call that takes a record judges first (13): R is 8, 16 or 32; P is a multiple of R, from R to 8192; the ID and both
+   masks are at most 3FFFh; mask1 has bit 7 set. */
 typedef struct {
     uint16_t id, words, row, mask1, mask2;
 } tickmallet_device;
 
-/* How long each list is, and how long a buffer must be for the call not to answer 26, for a record that keeps the rules. Each is a
-   constant expression where P and R are, so that it can be the size of an array; P and R are evaluated more than once. A buffer for
-   every device is that of P = TICKMALLET_MOST_WORDS and R = 8. Lengths and bounds are proved (README.md beside this file names each
-   theorem); those that are not reached say so. */
+/* Sizes, for a record that keeps the rules: how long each list has to be, and a room that each output fits, so that 26 is not given. The
+   outputs' sizes are proved; capi/README.md names each theorem. All are constant expressions where P and R are, so that they can be the
+   sizes of arrays. P and R are evaluated more than once. Room for every device is that of TICKMALLET_MOST_WORDS and R = 8. */
 #define TICKMALLET_MOST_WORDS 8192       /* P of the largest device */
 #define TICKMALLET_MOST_HEX_READ 131072  /* bytes of HEX text that read_hex takes */
 
@@ -62,7 +62,7 @@ typedef struct {
 /* A sheet has just so many bytes. */
 #define TICKMALLET_SHEET_BYTES(P) (5 + 45 * ((size_t)(P) / 8) + 50)
 
-/* HEX text that write_hex writes has at most so many bytes. This much is proved; the longest text that was found has 17 P / 2 + 96. */
+/* HEX text that write_hex writes has at most so many bytes. So much is proved; no text that was found has more than 17 P / 2 + 96. */
 #define TICKMALLET_HEX_BYTES(P) (14 * (size_t)(P) + 156)
 
 /* Looks an ID up in the text of a device table, which is judged whole.

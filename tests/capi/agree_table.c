@@ -68,7 +68,7 @@ static size_t put_table(void)
 static void damage_name(struct line *l)
 {
     static const uint8_t others[8] = {0x1f, 0x20, 0x7e, 0x7f, 0x80, 0xff, 0x09, 0x0d};
-    switch (below(4)) {
+    switch (below(6)) {
     case 0: set(l->name, ""); break;
     case 1: any_name(l->name, 17); break;
     case 2: any_name(l->name, 16 + below(4)); break;
@@ -168,7 +168,7 @@ void agree_tables(void)
 {
     any_table();
     uint16_t id = id_of(&lines[below((uint32_t)line_count)]);
-    uint32_t kind = below(4);
+    uint32_t kind = below(3);
     if (kind == 1)
         damage_lines();
     size_t n = put_table();
