@@ -71,7 +71,7 @@ static size_t any_record(uint8_t *to, size_t p, unsigned *upper)
     uint8_t bytes[300] = {0, 0, 0, 1};
     uint32_t type = below(12);
     size_t n = type == 0 ? 4 : type < 3 ? upper_bytes(bytes, upper) : data_bytes(bytes, p, *upper);
-    if (!below(30))
+    if (!below(12))
         bytes[below(4)] ^= (uint8_t)(1 << below(8));
     return put_line(to, bytes, put_sum(bytes, n));
 }
@@ -120,7 +120,7 @@ void agree_hex(const struct board *b)
         read_written(b, need);
 }
 
-/* The longest text that is taken, and one byte more; and a line that is longer than any record. */
+/* The longest text that is taken, and one byte more; a refusal in its last line; and a line that is longer than any record. */
 void agree_long_hex(void)
 {
     static const tickmallet_device d = {0x2a00, 16, 8, 0x3eff, 0x3ff3};
@@ -129,8 +129,10 @@ void agree_long_hex(void)
     memcpy(text + most - 12, ":00000001FF", 11);
     for (int i = 0; i < 4; i++)
         read_hex(&d, text, most, 25);
-    for (int i = 0; i < 200; i++)
+    for (int i = 0; i < 400; i++)
         read_hex(&d, text, most + 1, 25);
+    text[most - 1] = ':';
+    read_hex(&d, text, most, 25);
     memset(text, '0', most);
     text[0] = ':';
     for (size_t n = 500; n < 540; n++)

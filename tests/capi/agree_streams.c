@@ -20,7 +20,7 @@ static void run(const struct board *b, size_t n, size_t allowance, size_t room)
 /* A planned stream: all of it, or as far as an allowance goes. */
 static void run_planned(const struct board *b, size_t steps)
 {
-    size_t allowance = below(4) ? steps + below(2) : below((uint32_t)steps + 1);
+    size_t allowance = below(4) ? steps + below(2) : below(4) ? below((uint32_t)steps + 1) : (size_t)-1;
     memcpy(stream, proved.bytes, 3 * steps);
     run(b, 3 * steps, allowance, below(4) ? b->words + 9 : b->words + 8 + below(3));
 }

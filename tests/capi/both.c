@@ -61,8 +61,16 @@ void end(enum call call)
     if (same()) {
         passed++;
     } else if (failed++ < SHOWN) {
-        printf("%s differs: number %u, in C %u\n", calls[call].name, proved.number, plain.number);
+        printf("%s differs: number %u, in C %u; what was held before: %u\n", calls[call].name, proved.number, plain.number, passed);
     }
+}
+
+unsigned zeros(enum call call)
+{
+    unsigned n = 0;
+    for (unsigned f = 0; f < FILLS; f++)
+        n += seen[call][0][f];
+    return n;
 }
 
 void holds(int fact, const char *what)

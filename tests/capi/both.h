@@ -30,6 +30,9 @@ void begin(size_t bytes, size_t words, size_t cells);
 /* After them: compares all of it. */
 void end(enum call call);
 
+/* How often a call has answered 0 until now. */
+unsigned zeros(enum call call);
+
 /* One more assertion. */
 void holds(int fact, const char *what);
 
