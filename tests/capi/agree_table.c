@@ -132,19 +132,33 @@ static void damage_lines(void)
     }
 }
 
-/* One character changed, lost or doubled, at any place: a tab lost leaves five fields. */
+static size_t lose(size_t n, size_t at, size_t count)
+{
+    memmove(table + at, table + at + count, n - at - count);
+    return n - count;
+}
+
+/* A tab lost, or a field with its tab: five fields are left. */
+static size_t lose_field(size_t n, size_t at)
+{
+    while (at && table[at] != '\t')
+        at--;
+    size_t end = at + 1;
+    if (below(2))
+        while (end < n && table[end] != '\t' && table[end] != '\n')
+            end++;
+    return lose(n, at, end - at);
+}
+
+/* One character changed, lost or doubled, at any place. */
 static size_t damage_text(size_t n)
 {
     size_t at = below((uint32_t)n);
     switch (below(4)) {
     case 0: table[at] = (uint8_t)below(256); return n;
-    case 1: memmove(table + at, table + at + 1, n - at - 1); return n - 1;
+    case 1: return lose(n, at, 1);
     case 2: memmove(table + at + 1, table + at, n - at); return n + 1;
-    default:
-        while (at && table[at] != '\t')
-            at--;
-        memmove(table + at, table + at + 1, n - at - 1);
-        return n - 1;
+    default: return lose_field(n, at);
     }
 }
 
