@@ -120,7 +120,15 @@ void agree_hex(const struct board *b)
         read_written(b, need);
 }
 
-/* The longest text that is taken, and one byte more; a refusal in its last line; and a line that is longer than any record. */
+/* The longest record, of 255 bytes of data: of no type is that many right. */
+static void longest_record(const tickmallet_device *d)
+{
+    uint8_t bytes[300] = {255, 0, 0, (uint8_t)below(6)};
+    size_t n = put_line(text, bytes, put_sum(bytes, 4 + 255));
+    read_hex(d, text, n, d->words + 9u);
+}
+
+/* The longest text that is taken, and one byte more; a refusal in its last line; the longest record, and a line that is longer. */
 void agree_long_hex(void)
 {
     static const tickmallet_device d = {0x2a00, 16, 8, 0x3eff, 0x3ff3};
@@ -133,6 +141,8 @@ void agree_long_hex(void)
         read_hex(&d, text, most + 1, 25);
     text[most - 1] = ':';
     read_hex(&d, text, most, 25);
+    for (int i = 0; i < 100; i++)
+        longest_record(&d);
     memset(text, '0', most);
     text[0] = ':';
     for (size_t n = 500; n < 540; n++)
