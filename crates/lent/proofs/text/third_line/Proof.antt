@@ -1,5 +1,6 @@
 -- A walk of the code: `begin` answers a reader, which is copied to a local; the local is lent to `take` and comes back, three times, and the third line is the answer.
 -- How the local is lent and comes back is in `Reader.antt`. All that is known of the calls is their contracts.
+-- _1 the text, _2 the reader that is lent, _3 the one that `begin` answers, _4 the first line and then the second, _5 to _7 the references.
 use mathlib.Core.Path.{_≡_, refl, ap, _∙_}
 use Prim.Native.Nat.{ℕ}
 use mathlib.Core.List.{List, [], _∷_}
