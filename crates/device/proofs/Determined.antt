@@ -5,7 +5,7 @@ use Rattle.device.proofs.record.judge.Reads as judge
 use Rattle.device.proofs.record.id_fits.Reads as id-fits
 use Rattle.device.proofs.memory.programmable.Reads as programmable
 use Rattle.device.proofs.memory.is_reading.Reads as is-reading
-use Rattle.device.proofs.memory.is_image.Reads as is-image
+use Rattle.device.proofs.image.is_image.Reads as is-image
 use Rattle.device.proofs.memory.is_protected.Reads as is-protected
 
 pub judge-determined : (κs : _) (a : _) (r s : _) (x y : _) → judge.Post κs a r x → judge.Post κs a s y → r ≡ s

@@ -10,9 +10,9 @@ use lib.ListN.{length, getD}
 use borrow.Author.Tests.{lt-ltb, le-ltb, eqb-true, eq-eqb, ne-eqb}
 use Rattle.words.specs.Word.{notGiven, isWord}
 use Rattle.words.specs.Lists.{every, inRange}
-use Rattle.words.specs.LawsChoice.{both, first-holds, second-holds, first-fails, second-fails, true-not-false}
-use Rattle.words.specs.LawsLists.{every-at, every-all, every-no, in-range, below-range, above-range, getD-past}
-use Rattle.words.specs.LawsWord.{word-lt, is-word, not-word, bit-of-zero, words-long, words-each}
+use Rattle.words.specs.LawsChoice.{both, first-holds, second-holds, first-fails, true-not-false}
+use Rattle.words.specs.LawsLists.{every-at, every-all, in-range, below-range, above-range, getD-past}
+use Rattle.words.specs.LawsWord.{word-lt, is-word, bit-of-zero, words-long, words-each}
 use Rattle.device.specs.Memory.{readingTail, ids, cpWord, cpBit, isConfig, programmable, readingOk, entryOk, imageOk, zeroBit, protected}
 
 -- ---- places
@@ -62,10 +62,6 @@ module _ (words i entry : ℕ) where
   unfolding entryOk
   entry-given w = rw (ne-eqb entry notGiven (λ e. omega arith), is-word entry w)
 
-  pub entry-large : (entry ≡ notGiven → ⊥) → 0x4000 ≤ entry → entryOk words i entry ≡ false
-  unfolding entryOk
-  entry-large n h = rw (ne-eqb entry notGiven n, not-word entry h)
-
   -- a sound entry is 'not given', or a word where a word may be given
   pub entry-word : entryOk words i entry ≡ true → (entry ≡ notGiven → ⊥) → (entry < 0x4000) × (programmable words i ≡ true)
   unfolding entryOk
@@ -92,10 +88,6 @@ module _ (words : ℕ) (l : List ℕ) where
   pub image-short : (length l ≡ words + readingTail → ⊥) → imageOk words l ≡ false
   unfolding imageOk
   image-short h = first-fails (eqb (length l) (words + readingTail)) _ (ne-eqb (length l) (words + readingTail) h)
-
-  pub image-bad : (i : ℕ) → i < words + readingTail → entryOk words i (getD l i 0) ≡ false → imageOk words l ≡ false
-  unfolding imageOk
-  image-bad i p h = second-fails (eqb (length l) (words + readingTail)) _ (every-no (words + readingTail) (λ k. entryOk words k (getD l k 0)) i p h)
 
 -- ---- readings
 

@@ -1,11 +1,12 @@
 -- Laws of the device record: its rules as facts on numbers.
-use Prim.Native.Nat.{ℕ, _+_, _*_, _/_, _%_, _≤_, _<_}
+use Prim.Native.Nat.{ℕ, _+_, _-_, _*_, _/_, _%_, _≤_, _<_}
 use native.Mathlib.Nat.{div-add-mod'}
 use native.Mathlib.Omega.{arith}
 use mathlib.Core.Path.{_≡_, refl, sym, _∙_}
 use mathlib.Core.Logic.{_⊎_, inl, inr, ⊎-elim}
 use mathlib.Core.Bool.{Bool, true, false, _&&_, _||_}
 use lib.Dec.{leb, eqb}
+use lib.Bits.{bitAnd, and-mask}
 use borrow.Author.Tests.{eq-eqb, eqb-true, le-leb, leb-true}
 use Rattle.words.specs.Choice.{pick}
 use Rattle.words.specs.Word.{isWord, bit}
@@ -49,6 +50,11 @@ row r e =
     (⊎-elim (λ p. record { low = omega arith; high = omega arith; eighths = omega arith })
     (λ p. record { low = omega arith; high = omega arith; eighths = omega arith }))
     (row-cases r e)
+
+-- R is a power of two: a number mod R is its low bits
+pub row-mask : (row : ℕ) → rowOk row ≡ true → (n : ℕ) → bitAnd n (row - 1) ≡ n % row
+row-mask row e n =
+    ⊎-elim (λ p. rw p (and-mask n 3)) (⊎-elim (λ p. rw p (and-mask n 4)) (λ p. rw p (and-mask n 5))) (row-cases row e)
 
 -- ---- the rules and the test
 

@@ -3,3 +3,4 @@ pub mod Record
 pub mod Memory
 pub mod LawsRecord
 pub mod LawsMemory
+pub mod LawsImage

@@ -1,8 +1,9 @@
 // The device record and its rules (13), and the places of a device's memory. No call here has a `requires`.
+mod image;
 mod memory;
 mod record;
 
-pub use memory::is_image;
+pub use image::is_image;
 pub use memory::is_protected;
 pub use memory::is_reading;
 pub use memory::programmable;

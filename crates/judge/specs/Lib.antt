@@ -6,3 +6,4 @@ pub mod LawsCount
 pub mod LawsChecksum
 pub mod LawsVerify
 pub mod LawsVerdict
+pub mod LawsStretch

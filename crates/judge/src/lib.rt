@@ -1,5 +1,6 @@
 // Checksum and verify. No call here has a `requires`.
 mod checksums;
+mod stretch;
 mod verdicts;
 
 pub use checksums::checksum;

@@ -1,5 +1,6 @@
 // A reading held against a wanted reading.
 use crate::Verdict;
+use crate::stretch::pass_same;
 use device::Device;
 use device::READING_TAIL;
 use words::CONFIG_BASE;
@@ -58,7 +59,7 @@ fn verdict(words: u16, wanted: &[u16], reading: &[u16]) -> Verdict
     }
 }
 
-// Goes over the entries once.
+// Goes over the entries once, and looks one by one only where words differ.
 fn compare(words: u16, hidden: bool, wanted: &[u16], reading: &[u16]) -> Differences
     requires { ⌜ (length (now wanted) ≡ words + readingTail) × (length (now reading) ≡ words + readingTail) × (hidden ≡ protected words (now reading)) ⌝ }
     ensures { λ r. ⌜ Found (words + readingTail) (entryDiffers words (now (wanted .entry)) (now (reading .entry))) (r .count) (r .first) ⌝ }
@@ -66,9 +67,10 @@ fn compare(words: u16, hidden: bool, wanted: &[u16], reading: &[u16]) -> Differe
     let mut found = Differences { count: 0, first: 0 };
     let mut i: usize = 0;
     while i < reading.len() {
-        let other = differ(words, hidden, i, wanted[i], reading[i]);
-        found = note(found, i, other);
-        i += 1;
+        let at = pass_same(wanted, reading, i);
+        let other = differ(words, hidden, at, wanted[at], reading[at]);
+        found = note(found, at, other);
+        i = at + 1;
     }
     found
 }

@@ -4,11 +4,12 @@ use native.Mathlib.Omega.{arith}
 use native.Mathlib.Numerals.{add-one}
 use mathlib.Core.Path.{_≡_, refl, sym, _∙_}
 use mathlib.Core.List.{List}
-use lib.Bits.{bitOr, bitAnd, or-add-and, and-le-l, and-le-r}
+use lib.Bits.{bitOr}
 use lib.ListN.{length, getD}
 use lib.Seq.{drop-cons, take-length}
 use borrow.Author.Tests.{ne-eqb}
 use Rattle.bytes.specs.Bytes.{indexOf, indexAfter, slice}
+use Rattle.words.specs.LawsJoined.{or-none}
 use Rattle.numerals.specs.Text.{lf}
 use Rattle.lines.specs.Lines.{endOf}
 
@@ -23,11 +24,6 @@ pub record Four (text : List ℕ) (i : ℕ) : Type 0 where
 pub record Passing (text : List ℕ) (from i : ℕ) : Type 0 where
   pub within : i ≤ length text
   pub same : endOf text i ≡ endOf text from
-
-or-none : (a b : ℕ) → bitOr a b ≡ 0 → (a ≡ 0) × (b ≡ 0)
-or-none a b e =
-    let s : bitOr a b + bitAnd a b ≡ a + b = or-add-and a b in
-    (omega (arith, and-le-r a b), omega (arith, and-le-l a b))
 
 pub four-none : (text : List ℕ) (i a b c d : ℕ) → (a ≡ 0 → getD text i 0 ≡ lf → ⊥) → (b ≡ 0 → getD text (i + 1) 0 ≡ lf → ⊥) → (c ≡ 0 → getD text (i + 2) 0 ≡ lf → ⊥)
     → (d ≡ 0 → getD text (i + 3) 0 ≡ lf → ⊥) → bitOr (bitOr (bitOr a b) c) d ≡ 0 → Four text i

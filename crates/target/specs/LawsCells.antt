@@ -20,7 +20,7 @@ use Rattle.device.specs.declared.Device.{Device}
 use Rattle.device.specs.Memory.{readingTail, cellsTail, programmable}
 use Rattle.device.specs.Record.{mostWords}
 use Rattle.device.specs.LawsMemory.{programmable-lt}
-use Rattle.device.specs.LawsRecord.{Rules}
+use Rattle.device.specs.LawsRecord.{Rules, row-mask}
 use Rattle.target.specs.Chip.{Chip, chipOf}
 use Rattle.target.specs.Effects.{locked, edit, inProgram, atErase, rowErased, bulkErased, beginWritten, latchOf, burnt, wordRead}
 use Rattle.target.specs.LawsChip.{SoundChip, sound-chip}
@@ -159,6 +159,10 @@ module _ (d : Device) (r : Rules d) where
 
   pub latch-of : (a : ℕ) → a % d .row < chipOf d .places
   latch-of a = latch-within (chipOf d) (sound-chip d r) a
+
+  -- the same latch by the counter's low bits
+  pub latch-bits : (a : ℕ) → (bitAnd a (d .row - 1) ≡ a % d .row) × (bitAnd a (d .row - 1) < 32)
+  latch-bits a = (row-mask (d .row) (r .row-is) a, rw (row-mask (d .row) (r .row-is) a) (latch-of a))
 
   -- what can be written is one of the cells
   module _ (i : ℕ) (b : Bool) (e : b ≡ programmable (d .words) i) (t : b ≡ true) where

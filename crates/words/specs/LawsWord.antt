@@ -13,8 +13,8 @@ use lib.Dec.{eqb}
 use lib.ListN.{length, getD}
 use native.Mathlib.Decide.{decLt}
 use Rattle.words.specs.Lists.{every}
-use Rattle.words.specs.LawsChoice.{both, first-holds, second-holds, first-fails, second-fails}
-use Rattle.words.specs.LawsLists.{every-at, every-all, every-no, getD-past}
+use Rattle.words.specs.LawsChoice.{both, first-holds, second-holds, first-fails}
+use Rattle.words.specs.LawsLists.{every-at, every-all, getD-past}
 use Rattle.words.specs.Word.{erased, isWord, bit, Between, Contains, wordsOf}
 
 -- ---- what 14 bits hold
@@ -192,7 +192,3 @@ module _ (n : ℕ) (l : List ℕ) where
   pub words-short : (length l ≡ n → ⊥) → wordsOf n l ≡ false
   unfolding wordsOf
   words-short h = first-fails (eqb (length l) n) _ (ne-eqb (length l) n h)
-
-  pub words-high : (i : ℕ) → i < n → 0x4000 ≤ getD l i 0 → wordsOf n l ≡ false
-  unfolding wordsOf
-  words-high i p h = second-fails (eqb (length l) n) _ (every-no n (λ k. isWord (getD l k 0)) i p (not-word (getD l i 0) h))

@@ -9,3 +9,4 @@ pub mod LawsTests
 pub mod LawsWord
 pub mod LawsAddress
 pub mod LawsLists
+pub mod LawsJoined

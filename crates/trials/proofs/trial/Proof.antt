@@ -69,14 +69,32 @@ slice-aggregate-put-run-2 : tie.Need-slice-aggregate-put-run-2
 slice-aggregate-put-run-2 c = sym (length-take-le _ _ (array-share-prefix-bytes (c .before)))
 
 put-run-requires : tie.Need-put-run-requires
-put-run-requires c κs = ((board-opened _ _ _ (c .before .before .before .before .before .before .before .before .before .before .before .before .before .open-board .ensures .0) (c .before .before .before .before .before .before .before .before .before .before .before .if1 .left) _ (c .before .before .before .before .before .before .before .before .before .before .before .before .before .open-board .ensures .1) _ (c .before .before .before .before .before .before .before .before .before .before .before .before .before .open-board .ensures .2)) .sound, (board-opened _ _ _ (c .before .before .before .before .before .before .before .before .before .before .before .before .before .open-board .ensures .0) (c .before .before .before .before .before .before .before .before .before .before .before .if1 .left) _ (c .before .before .before .before .before .before .before .before .before .before .before .before .before .open-board .ensures .1) _ (c .before .before .before .before .before .before .before .before .before .before .before .before .before .open-board .ensures .2)) .good)
+put-run-requires c κs = (
+  (board-opened _ _ _ (c .before .before .before .before .before .before .before .before .before .before .before .before .before .open-board .ensures .0)
+      (c .before .before .before .before .before .before .before .before .before .before .before .if1 .left) _
+      (c .before .before .before .before .before .before .before .before .before .before .before .before .before .open-board .ensures .1) _
+      (c .before .before .before .before .before .before .before .before .before .before .before .before .before .open-board .ensures .2)) .sound,
+  (board-opened _ _ _
+      (c .before .before .before .before .before .before .before .before .before .before .before .before .before .open-board .ensures .0)
+      (c .before .before .before .before .before .before .before .before .before .before .before .if1 .left) _
+      (c .before .before .before .before .before .before .before .before .before .before .before .before .before .open-board .ensures .1) _
+      (c .before .before .before .before .before .before .before .before .before .before .before .before .before .open-board .ensures .2)) .good,
+)
 
 same-length-3 : tie.Need-same-length-3
 same-length-3 c = search needs
 
 returns-3 : tie.Need-returns-3
 returns-3 c = printed _ (trial-short _ _ _) (prints-as _ _ _ _ _
-    (trial-run _ _ _ _ (c .before .before .before .before .before .before .before .before .before .before .before .before .before .before .before .before .open-board .ensures .0) (c .before .before .before .before .before .before .before .before .before .before .before .before .before .before .if1 .left) _ _ _ _ (c .before .before .before .before .before .before .before .before .before .before .before .before .read-stream .ensures) (c .before .before .before .before .before .before .before .before .before .if2 .left) (length-replicate {A = ℕ} 98304 0) _ _ (board-opened _ _ _ (c .before .before .before .before .before .before .before .before .before .before .before .before .before .before .before .before .open-board .ensures .0) (c .before .before .before .before .before .before .before .before .before .before .before .before .before .before .if1 .left) _ (c .before .before .before .before .before .before .before .before .before .before .before .before .before .before .before .before .open-board .ensures .1) _ (c .before .before .before .before .before .before .before .before .before .before .before .before .before .before .before .before .open-board .ensures .2))) (c .before .before .put-run .ensures))
+    (trial-run _ _ _ _ (c .before .before .before .before .before .before .before .before .before .before .before .before .before .before .before .before .open-board .ensures .0)
+    (c .before .before .before .before .before .before .before .before .before .before .before .before .before .before .if1 .left) _ _ _ _
+    (c .before .before .before .before .before .before .before .before .before .before .before .before .read-stream .ensures)
+    (c .before .before .before .before .before .before .before .before .before .if2 .left) (length-replicate {A = ℕ} 98304 0) _ _ (board-opened _ _ _
+    (c .before .before .before .before .before .before .before .before .before .before .before .before .before .before .before .before .open-board .ensures .0)
+    (c .before .before .before .before .before .before .before .before .before .before .before .before .before .before .if1 .left) _
+    (c .before .before .before .before .before .before .before .before .before .before .before .before .before .before .before .before .open-board .ensures .1) _
+    (c .before .before .before .before .before .before .before .before .before .before .before .before .before .before .before .before .open-board .ensures .2)))
+    (c .before .before .put-run .ensures))
 
 pub trial-spec : {M : Type 1} → statement M
 trial-spec =

@@ -54,7 +54,11 @@ same-length-3 : tie.Need-same-length-3
 same-length-3 c = search needs
 
 returns-5 : tie.Need-returns-5
-returns-5 c = hex-read _ _ _ (ok-of-judged _ (sym (c .before .before .before .before .before .before .before .before .before .before .before .before .before .before .judge .ensures) ∙ c .before .before .before .before .before .before .before .before .before .before .before .before .before .if1 .left)) (c .before .before .before .before .before .before .before .before .before .before .before .if2 .left) (c .before .before .before .before .before .before .if3 .left) _ (c .before .before .before .before .before .before .before .before .before .clear .ensures) _ _ (c .before .before .before .before .read-lines .ensures) (c .if4 .left)
+returns-5 c = hex-read _ _ _ (ok-of-judged _
+    (sym (c .before .before .before .before .before .before .before .before .before .before .before .before .before .before .judge .ensures)
+    ∙ c .before .before .before .before .before .before .before .before .before .before .before .before .before .if1 .left))
+    (c .before .before .before .before .before .before .before .before .before .before .before .if2 .left) (c .before .before .before .before .before .before .if3 .left) _
+    (c .before .before .before .before .before .before .before .before .before .clear .ensures) _ _ (c .before .before .before .before .read-lines .ensures) (c .if4 .left)
 
 pub read-hex-spec : {M : Type 1} → statement M
 read-hex-spec =

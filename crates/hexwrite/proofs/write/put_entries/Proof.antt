@@ -38,7 +38,16 @@ hex-address-requires : tie.Need-hex-address-requires Inv-loop μ-loop
 hex-address-requires c κs = (omega arith, omega arith)
 
 put-run-requires : tie.Need-put-run-requires Inv-loop μ-loop
-put-run-requires c κs = (c .before .before .before .before .before .before .before .before .before .pre .0, c .before .hex-address .ensures .below, c .before .before .run-stop .ensures .more, c .before .before .run-stop .ensures .short, c .before .before .run-stop .ensures .inside, turn-room _ _ _ _ _ _ _ (c .before .before .before .before .before .before .loop .inv) (c .before .before .before .before .before .before .before .before .before .pre .2) _ (c .before .before .run-stop .ensures) _ (c .before .hex-address .ensures) (c .before .before .before .before .before .before .before .before .before .pre .3))
+put-run-requires c κs = (
+  c .before .before .before .before .before .before .before .before .before .pre .0,
+  c .before .hex-address .ensures .below,
+  c .before .before .run-stop .ensures .more,
+  c .before .before .run-stop .ensures .short,
+  c .before .before .run-stop .ensures .inside,
+  turn-room _ _ _ _ _ _ _
+      (c .before .before .before .before .before .before .loop .inv) (c .before .before .before .before .before .before .before .before .before .pre .2) _
+      (c .before .before .run-stop .ensures) _ (c .before .hex-address .ensures) (c .before .before .before .before .before .before .before .before .before .pre .3),
+)
 
 upper-half-requires : tie.Need-upper-half-requires Inv-loop μ-loop
 upper-half-requires c κs = c .before .before .before .before .hex-address .ensures .below

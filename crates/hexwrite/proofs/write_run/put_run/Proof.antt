@@ -16,7 +16,16 @@ put-upper-requires c κs = (
 )
 
 put-data-requires : tie.Need-put-data-requires
-put-data-requires c κs = (c .before .before .before .before .before .before .before .before .pre .0, c .before .before .before .before .before .before .before .before .pre .1, c .before .before .before .before .before .before .before .before .pre .2, c .before .before .before .before .before .before .before .before .pre .3, c .before .before .before .before .before .before .before .before .pre .4, rest-room _ _ _ _ _ (c .before .before .before .before .upper-half .ensures) _ _ (c .before .before .before .put-upper .ensures) _ (c .before .before .before .before .before .before .before .before .pre .5))
+put-data-requires c κs = (
+  c .before .before .before .before .before .before .before .before .pre .0,
+  c .before .before .before .before .before .before .before .before .pre .1,
+  c .before .before .before .before .before .before .before .before .pre .2,
+  c .before .before .before .before .before .before .before .before .pre .3,
+  c .before .before .before .before .before .before .before .before .pre .4,
+  rest-room _ _ _ _ _
+      (c .before .before .before .before .upper-half .ensures) _ _ (c .before .before .before .put-upper .ensures) _
+      (c .before .before .before .before .before .before .before .before .pre .5),
+)
 
 same-length : tie.Need-same-length
 same-length c = search needs

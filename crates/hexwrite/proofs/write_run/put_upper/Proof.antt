@@ -51,13 +51,22 @@ add-put-sum-3 : tie.Need-add-put-sum-3
 add-put-sum-3 c = search needs
 
 put-sum-requires : tie.Need-put-sum-requires
-put-sum-requires c κs = (c .before .before .before .before .before .before .before .before .before .before .before .before .before .before .before .pre .0, let n = length-new _ _ (c .before .before .before .before .before .before .before .before .before .before .before .before .before .if1 .left) in omega (arith, c .before .before .before .before .before .before .before .before .before .before .before .put-head .kept .0, c .before .before .before .before .before .before .before .put-pair .kept .0, c .before .before .before .put-pair2 .kept .0))
+put-sum-requires c κs = (
+  c .before .before .before .before .before .before .before .before .before .before .before .before .before .before .before .pre .0,
+  let n = length-new _ _
+      (c .before .before .before .before .before .before .before .before .before .before .before .before .before .if1 .left) in omega
+      (arith, c .before .before .before .before .before .before .before .before .before .before .before .put-head .kept .0, c .before .before .before .before .before .before .before .put-pair .kept .0, c .before .before .before .put-pair2 .kept .0),
+)
 
 same-length : tie.Need-same-length
 same-length c = search needs
 
 returns-2 : tie.Need-returns-2
-returns-2 c = upper-put _ _ _ (c .before .before .before .before .before .before .before .before .before .before .before .before .before .before .before .before .if1 .left) _ _ _ _ _ _ _ (c .before .before .before .before .before .before .before .before .before .before .before .before .before .before .put-head .ensures .0) (c .before .before .before .before .before .before .before .before .before .before .put-pair .ensures) (c .before .before .before .before .before .before .put-pair2 .ensures) (c .before .before .put-sum .ensures)
+returns-2 c = upper-put _ _ _
+    (c .before .before .before .before .before .before .before .before .before .before .before .before .before .before .before .before .if1 .left) _ _ _ _ _ _ _
+    (c .before .before .before .before .before .before .before .before .before .before .before .before .before .before .put-head .ensures .0)
+    (c .before .before .before .before .before .before .before .before .before .before .put-pair .ensures) (c .before .before .before .before .before .before .put-pair2 .ensures)
+    (c .before .before .put-sum .ensures)
 
 pub put-upper-spec : {M : Type 1} → statement M
 put-upper-spec =

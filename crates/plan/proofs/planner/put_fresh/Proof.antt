@@ -35,7 +35,12 @@ put-body-requires c κs = let a = left-then _ _ _ _ _ _ _ _ _ (left-same _ _ _ _
       c .before .before .before .before .before .before .before .before .before .before .before .before .before .before .before .before .pre .0,
       (
         c .before .before .before .before .before .before .before .before .before .before .before .before .before .before .before .before .pre .1 .0,
-        (c .before .before .before .before .before .before .before .before .before .before .before .before .before .before .before .before .pre .1 .1 .0, room-rest _ _ _ _ _ _ (left-then _ _ _ _ _ _ _ _ _ b (c .before .before .before .before .put-order3 .ensures)) (c .before .before .before .before .before .before .before .before .before .before .before .before .before .before .before .before .pre .1 .1 .1)),
+        (
+          c .before .before .before .before .before .before .before .before .before .before .before .before .before .before .before .before .pre .1 .1 .0,
+          room-rest _ _ _ _ _ _
+              (left-then _ _ _ _ _ _ _ _ _ b (c .before .before .before .before .put-order3 .ensures))
+              (c .before .before .before .before .before .before .before .before .before .before .before .before .before .before .before .before .pre .1 .1 .1),
+        ),
       ),
     )
 

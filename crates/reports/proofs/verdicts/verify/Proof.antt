@@ -108,7 +108,13 @@ cast-verdict c = omega (
       (c .before .before .before .before .before .before .before .before .before .before .before .before .if1 .left) _
       (c .before .before .before .before .before .before .before .before .before .before .before .before .before .before .open-board .ensures .1) _
       (c .before .before .before .before .before .before .before .before .before .before .before .before .before .before .open-board .ensures .2)) _
-      (other-long _ _ _ _ (board-opened _ _ _ (c .before .before .before .before .before .before .before .before .before .before .before .before .before .before .open-board .ensures .0) (c .before .before .before .before .before .before .before .before .before .before .before .before .if1 .left) _ (c .before .before .before .before .before .before .before .before .before .before .before .before .before .before .open-board .ensures .1) _ (c .before .before .before .before .before .before .before .before .before .before .before .before .before .before .open-board .ensures .2)) 0) _ (c .before .before .before .before .before .before .before .before .read-sheet .ensures .0) (c .before .before .before .before .before .before .if2 .left) _ (c .before .before .before .before .before .before .before .before .read-sheet .ensures .1) _ _ (c .before .before .before .verify .ensures),
+      (other-long _ _ _ _ (board-opened _ _ _
+      (c .before .before .before .before .before .before .before .before .before .before .before .before .before .before .open-board .ensures .0)
+      (c .before .before .before .before .before .before .before .before .before .before .before .before .if1 .left) _
+      (c .before .before .before .before .before .before .before .before .before .before .before .before .before .before .open-board .ensures .1) _
+      (c .before .before .before .before .before .before .before .before .before .before .before .before .before .before .open-board .ensures .2)) 0) _
+      (c .before .before .before .before .before .before .before .before .read-sheet .ensures .0) (c .before .before .before .before .before .before .if2 .left) _
+      (c .before .before .before .before .before .before .before .before .read-sheet .ensures .1) _ _ (c .before .before .before .verify .ensures),
 )
 
 verdict-requires : tie.Need-verdict-requires
@@ -119,7 +125,22 @@ same-length-3 c = search needs
 
 returns-3 : tie.Need-returns-3
 returns-3 c = printed _ (verify-short _ _ _) (prints-as _ _ _ _ _
-    (verify-found _ _ _ _ (c .before .before .before .before .before .before .before .before .before .before .before .before .before .before .before .before .before .open-board .ensures .0) (c .before .before .before .before .before .before .before .before .before .before .before .before .before .before .before .if1 .left) _ _ (board-opened _ _ _ (c .before .before .before .before .before .before .before .before .before .before .before .before .before .before .before .before .before .open-board .ensures .0) (c .before .before .before .before .before .before .before .before .before .before .before .before .before .before .before .if1 .left) _ (c .before .before .before .before .before .before .before .before .before .before .before .before .before .before .before .before .before .open-board .ensures .1) _ (c .before .before .before .before .before .before .before .before .before .before .before .before .before .before .before .before .before .open-board .ensures .2)) _ (other-long _ _ _ _ (board-opened _ _ _ (c .before .before .before .before .before .before .before .before .before .before .before .before .before .before .before .before .before .open-board .ensures .0) (c .before .before .before .before .before .before .before .before .before .before .before .before .before .before .before .if1 .left) _ (c .before .before .before .before .before .before .before .before .before .before .before .before .before .before .before .before .before .open-board .ensures .1) _ (c .before .before .before .before .before .before .before .before .before .before .before .before .before .before .before .before .before .open-board .ensures .2)) 0) _ (c .before .before .before .before .before .before .before .before .before .before .before .read-sheet .ensures .0) (c .before .before .before .before .before .before .before .before .before .if2 .left) _ (c .before .before .before .before .before .before .before .before .before .before .before .read-sheet .ensures .1) _ _ (c .before .before .before .before .before .before .verify .ensures)) (c .before .before .verdict .ensures))
+    (verify-found _ _ _ _
+    (c .before .before .before .before .before .before .before .before .before .before .before .before .before .before .before .before .before .open-board .ensures .0)
+    (c .before .before .before .before .before .before .before .before .before .before .before .before .before .before .before .if1 .left) _ _ (board-opened _ _ _
+    (c .before .before .before .before .before .before .before .before .before .before .before .before .before .before .before .before .before .open-board .ensures .0)
+    (c .before .before .before .before .before .before .before .before .before .before .before .before .before .before .before .if1 .left) _
+    (c .before .before .before .before .before .before .before .before .before .before .before .before .before .before .before .before .before .open-board .ensures .1) _
+    (c .before .before .before .before .before .before .before .before .before .before .before .before .before .before .before .before .before .open-board .ensures .2)) _
+    (other-long _ _ _ _ (board-opened _ _ _
+    (c .before .before .before .before .before .before .before .before .before .before .before .before .before .before .before .before .before .open-board .ensures .0)
+    (c .before .before .before .before .before .before .before .before .before .before .before .before .before .before .before .if1 .left) _
+    (c .before .before .before .before .before .before .before .before .before .before .before .before .before .before .before .before .before .open-board .ensures .1) _
+    (c .before .before .before .before .before .before .before .before .before .before .before .before .before .before .before .before .before .open-board .ensures .2)) 0) _
+    (c .before .before .before .before .before .before .before .before .before .before .before .read-sheet .ensures .0)
+    (c .before .before .before .before .before .before .before .before .before .if2 .left) _
+    (c .before .before .before .before .before .before .before .before .before .before .before .read-sheet .ensures .1) _ _
+    (c .before .before .before .before .before .before .verify .ensures)) (c .before .before .verdict .ensures))
 
 pub verify-spec : {M : Type 1} → statement M
 verify-spec =

@@ -46,7 +46,16 @@ returns-3 c = steps-32-latches _ _ _ _ _ _ (ok-of-judged _
     (sym (c .before .before .before .before .before .is-words .ensures) ∙ c .before .before .before .before .if2 .taken) (sym (c .before .latches-ok .ensures) ∙ c .if3 .left)
 
 perform-requires : tie.Need-perform-requires
-perform-requires c κs = (rules-of-judged _ (sym (c .before .before .before .before .before .before .before .before .before .before .before .before .before .judge .ensures) ∙ c .before .before .before .before .before .before .before .before .before .before .before .before .if1 .left), (words-long _ _ (sym (c .before .before .before .before .before .before .before .before .before .is-words .ensures) ∙ c .before .before .before .before .before .before .before .before .if2 .taken), omega arith))
+perform-requires c κs = (
+  rules-of-judged _ (sym (c .before .before .before .before .before .before .before .before .before .before .before .before .before .judge .ensures)
+      ∙ c .before .before .before .before .before .before .before .before .before .before .before .before .if1 .left),
+  (
+    words-long _ _
+        (sym (c .before .before .before .before .before .before .before .before .before .is-words .ensures)
+        ∙ c .before .before .before .before .before .before .before .before .if2 .taken),
+    omega arith,
+  ),
+)
 
 same-length-3 : tie.Need-same-length-3
 same-length-3 c = search needs
@@ -57,7 +66,12 @@ same-length-4 c = search needs
 returns-4 : tie.Need-returns-4
 unfolding soundCells
 returns-4 c = steps-on _ _ _ _ _ _ (ok-of-judged _
-    (sym (c .before .before .before .before .before .before .before .before .before .before .before .before .before .before .before .before .before .before .before .judge .ensures) ∙ c .before .before .before .before .before .before .before .before .before .before .before .before .before .before .before .before .before .before .if1 .left)) (sym (c .before .before .before .before .before .before .before .before .before .before .before .before .before .before .before .is-words .ensures) ∙ c .before .before .before .before .before .before .before .before .before .before .before .before .before .before .if2 .taken) (sym (c .before .before .before .before .before .before .before .before .before .before .before .latches-ok .ensures) ∙ c .before .before .before .before .before .before .before .before .before .before .if3 .taken) _ _ _ _ _ (c .before .before .before .before .before .perform .ensures)
+    (sym (c .before .before .before .before .before .before .before .before .before .before .before .before .before .before .before .before .before .before .before .judge .ensures)
+    ∙ c .before .before .before .before .before .before .before .before .before .before .before .before .before .before .before .before .before .before .if1 .left))
+    (sym (c .before .before .before .before .before .before .before .before .before .before .before .before .before .before .before .is-words .ensures)
+    ∙ c .before .before .before .before .before .before .before .before .before .before .before .before .before .before .if2 .taken)
+    (sym (c .before .before .before .before .before .before .before .before .before .before .before .latches-ok .ensures)
+    ∙ c .before .before .before .before .before .before .before .before .before .before .if3 .taken) _ _ _ _ _ (c .before .before .before .before .before .perform .ensures)
 
 pub step-spec : {M : Type 1} → statement M
 step-spec =
