@@ -49,35 +49,38 @@ class Mended:
         if not self.fits:
             self.say("!", "file", "its needs are not those of the old code: left alone (is it mended already?)")
             return
-        self.mine = "!" if not fills or list(now) != ["Lts"] else " "  # whose work new needs and old ones are
+        self.fills = fills and list(now) == ["Lts"]  # a cycle of calls is left to its author
         self.pairs = {member: match_needs(was[member].needs, now[member].needs) for member in was if member in now}
         self.renamed, self.gone = {}, []
         unchanged = {piece for piece, _, _ in answers(old_text)}
         for piece in self.pieces:
-            if piece[2] and piece[0] in unchanged:
-                self.mend(piece)
-            elif piece[2]:
-                self.say("!", piece[2][1], "its answer has changed since: left alone")
-        self.pieces[-1][0] = re.sub(r"(?<![^\s(])%s(?![^\s()])" % NAME, lambda m: self.renamed.get(m.group(), m.group()), self.pieces[-1][0])
+            if piece[2]:
+                self.mend(piece, piece[0] in unchanged)
+        close = self.pieces[-1]
+        close[0] = re.sub(r"(?<![^\s(])%s(?![^\s()])" % NAME, lambda m: self.renamed.get(m.group(), m.group()), close[0])
         self.fresh = [(member, need) for member in now for need in now[member].needs
                       if need not in {partner for partner, _ in self.pairs.get(member, {}).values()}]
         for _, need in self.fresh:
-            self.say(self.mine, need, "the need is new")
-        if self.mine == " ":
+            self.say(" " if self.fills else "!", need, "the need is new")
+        if self.fills:
             self.fill()
 
     def say(self, mark, need, what):
-        self.lines.append("%s %s: %s" % (mark, need, what))
+        line = "%s %s: %s" % (mark, need, what)
+        self.lines += [line] if line not in self.lines else []
 
-    def mend(self, piece):
+    def mend(self, piece, unchanged):
         text, name, (member, need) = piece
         partner, sure = self.pairs.get(member, {}).get(need, (None, True))
         if not partner:
             self.gone.append(piece)
-            return self.say(self.mine, need, "the need is gone")
+            return self.say(" " if self.fills else "!", need, "the need is gone")
         old, new = self.was[member].needs[need], self.now[member].needs[partner]
         ways = match_paths(old, new)
-        text = CHAIN.sub(lambda found: self.moved(found, need, old, new, ways), text)
+        if unchanged:
+            text = CHAIN.sub(lambda found: self.moved(found, need, old, new, ways), text)
+        else:
+            self.say("!", need, "its answer has changed since: its chains are left alone")
         if partner != need:
             self.say(" " if sure else "?", need, "is %s now" % partner)
             fresh = name[:-len(need)] + partner if name.endswith(need) else name
@@ -93,11 +96,11 @@ class Mended:
             self.say("!", need, here + " led nowhere before")
             return found.group()
         to, sure = ways[steps]
+        if to is not None and word and word not in new[to].things:  # one thing alone may have another number now
+            to, word = (to, new[to].things[0]) if len(new[to].things) == 1 else (None, word)
         if to is None:
             self.say("!", need, "%s: %s is gone; there is: %s" % (here, thing(old, steps, word), " ".join(things(new))))
             return found.group()
-        if word and word not in new[to].things:  # the same thing under another number
-            word = new[to].things[old[steps].things.index(word)]
         if chain(to, word) == here and sure:
             return found.group()
         self.say(" " if sure else "?", need, "%s -> %s" % (here, chain(to, word)))
@@ -118,12 +121,12 @@ class Mended:
         order, close = list(self.now["Lts"].needs), self.pieces[-1]
         later = order[order.index(need) + 1:]
         at = next((i for i, piece in enumerate(self.pieces) if piece[2] and piece[2][1] in later), len(self.pieces) - 1)
+        before = r"(\s+)%s(?![^\s()])" % re.escape(self.pieces[at][1]) if self.pieces[at] is not close else r"()\)\s*$"
+        close[0] = re.sub(before, lambda m: (m.group(1) or "\n    ") + need + m.group(), close[0], count=1)
         given = next((re.search(r"\.Need-\S+(.*)", piece[0]).group(1) for piece in self.pieces if piece[2]), "")
         bound = "c κs" if re.search(r"-requires(-\d+)?$", need) else "c"
-        after = re.escape(self.pieces[at][1]) + r"(?![^\s()])" if self.pieces[at] is not close else r"\)\s*$"
-        gap = r"(\s+)" if self.pieces[at] is not close else r"()"
-        close[0] = re.sub(gap + "(%s)" % after, lambda m: (m.group(1) or "\n    ") + need + m.group(), close[0], count=1)
-        self.pieces.insert(at, ["%s : tie.Need-%s%s\n%s %s = search needs\n\n" % (need, need, given, need, bound), need, ("Lts", need)])
+        text = "%s : tie.Need-%s%s\n%s %s = search needs\n\n" % (need, need, given, need, bound)
+        self.pieces.insert(at, [text, need, ("Lts", need)])
         if "{needs}" not in self.pieces[0][0]:
             self.pieces[0][0] = self.pieces[0][0].replace("use ", "use borrow.Author.Needs.{needs}\nuse ", 1)
 

@@ -41,9 +41,9 @@ class Places:
         parameters. Other numbers shift with each edit, and so do the ways back."""
         text = self.own.get(place, "").split("Type 0", 1)[-1]
         for rule in re.findall(r"\b(s\d+) \.gives", text):
-            begins = re.compile(r" *abbrev (?:pub )?%s :" % rule)
-            text += "".join(part.split("=", 1)[-1] for part in self.parts if begins.match(part))
-        words = re.findall(r"[^\s()]+", re.sub(r"·\S*|\b[A-Za-z]+\d+\b|(?<=\s)\.\S+", "", text))
+            begins = re.compile(r"^ *abbrev (?:pub )?%s :" % rule, re.M)
+            text += "".join(part.split("=", 1)[-1] for part in self.parts if begins.search(part))
+        words = re.findall(r"[^\s(),;]+", re.sub(r"[^\s(]*·\S*|\b[A-Za-z]+\d+\b|(?<=\s)\.\S+", "", text))
         return [word for word in words if not word.isdigit() or int(word) <= len(self.fields.get("Args", ""))]
 
     def loops(self):
