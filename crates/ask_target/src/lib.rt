@@ -20,13 +20,14 @@ pub fn answer(
     out: &mut [u8],
 ) -> usize {
     let which = name::place(
-        b"target.step lent.step_on lent.step_method target.run lent.first_number",
+        b"target.step lent.step_on lent.step_method target.run lent.first_number lent.third_line",
         name,
     );
     match which {
         0..=2 => ask_step(which, line, at, w, v, out),
         3 => ask_run(line, at, a, w, v, out),
         4 => first_number(line, at, a, out),
+        5 => third_line(line, at, a, out),
         _ => UNKNOWN,
     }
 }
@@ -178,4 +179,15 @@ fn first_number(line: &[u8], at: usize, a: &mut [u8], out: &mut [u8]) -> usize {
     }
     let n = text.count;
     put::number(out, at, lent::first_number(&a[..n]) as u64)
+}
+
+fn third_line(line: &[u8], at: usize, a: &mut [u8], out: &mut [u8]) -> usize {
+    let text = fields::bytes(line, at, a);
+    if text.at != line.len() {
+        return NOWHERE;
+    }
+    let n = text.count;
+    let l = lent::third_line(&a[..n]);
+    let next = put::two(out, at, l.start as u64, l.stop as u64);
+    put::two(out, next, l.at as u64, l.line as u64)
 }

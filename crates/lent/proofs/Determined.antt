@@ -11,6 +11,7 @@ use Rattle.target.specs.declared.Stepped.{Stepped}
 use Rattle.lent.proofs.step_on.Reads as step-on
 use Rattle.lent.proofs.step_method.Reads as step-method
 use Rattle.lent.proofs.text.first_number.Reads as first-number
+use Rattle.lent.proofs.text.third_line.Reads as third-line
 
 same-steps : {d : Device} {h : Registers} {c p : ℕ} {ws cs ws₁ ws₂ cs₁ cs₂ : List ℕ} (r s : Stepped) → Steps d h c p ws cs (r .number) (r .registers) ws₁ cs₁
     → Steps d h c p ws cs (s .number) (s .registers) ws₂ cs₂
@@ -33,3 +34,6 @@ step-method-determined κs a r s x y p q = same-steps r s p q
 
 pub first-number-determined : (κs : _) (a : _) (r s : _) (x y : _) → first-number.Post κs a r x → first-number.Post κs a s y → r ≡ s
 first-number-determined κs a r s x y p q = determined p q
+
+pub third-line-determined : (κs : _) (a : _) (r s : _) (x y : _) → third-line.Post κs a r x → third-line.Post κs a s y → r ≡ s
+third-line-determined κs a r s x y p q = determined p q

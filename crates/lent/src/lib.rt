@@ -5,6 +5,7 @@ use device::Device;
 use target::Registers;
 use target::Stepped;
 pub use text::first_number;
+pub use text::third_line;
 ghost use Rattle.target.specs.Step.{Steps};
 
 // One step by `target::step_on`: the registers are lent to it, and come back with its number.

@@ -2,16 +2,35 @@
 
 use crate::calls::{parse, Request};
 use crate::field::{line, LINE_MAX};
+use std::cell::Cell;
 use std::io::{self, BufRead, BufReader, BufWriter, Read, Write};
-use std::process::{Command, Stdio};
+use std::os::unix::process::CommandExt;
+use std::process::{Child, Command, ExitStatus, Stdio};
+use std::sync::mpsc::{sync_channel, Receiver, RecvTimeoutError, SyncSender};
+use std::thread;
+use std::time::{Duration, Instant};
 
 /// How often a command is started for one batch.
 const STARTS: usize = 20;
+/// What is written or read at a time.
+const PIECE: usize = 1 << 16;
+/// Pieces that wait to be looked at.
+const WAITING: usize = 64;
+/// A line that is longer is no answer: a command may never end it.
+const ANSWER_MAX: usize = 8 * LINE_MAX;
 
 pub enum Peer {
     /// Our own answers, for what can be run without a command.
     Own,
-    Command(Vec<String>),
+    Command(Partner),
+}
+
+/// The command, and how long we wait while it neither takes nor says anything.
+pub struct Partner {
+    words: Vec<String>,
+    patience: Duration,
+    /// Once it hung it is not started again, or each start would cost that time.
+    hung: Cell<bool>,
 }
 
 /// What a command did with a whole input.
@@ -21,6 +40,19 @@ pub struct Talk {
 }
 
 impl Peer {
+    pub fn command(words: Vec<String>, patience: Duration) -> Peer {
+        Peer::Command(Partner {
+            words,
+            patience,
+            hung: Cell::new(false),
+        })
+    }
+
+    /// Whether the command hung: nothing more can be asked.
+    pub fn hung(&self) -> bool {
+        matches!(self, Peer::Command(partner) if partner.hung.get())
+    }
+
     /// Asks all the requests and hands on each answer; nothing for one that did not come.
     ///
     /// A process a batch, since nothing says that answers come before the input's end. Where a command ends at a
@@ -30,22 +62,22 @@ impl Peer {
         requests: &[Request],
         mut each: impl FnMut(&Request, Option<&[u8]>),
     ) -> Result<(), String> {
-        let words = match self {
+        let partner = match self {
             Peer::Own => {
                 for r in requests {
                     each(r, Some(&line(r.call().name, &r.own().fields)));
                 }
                 return Ok(());
             }
-            Peer::Command(words) => words,
+            Peer::Command(partner) => partner,
         };
         let mut ended = Ok(());
         let mut rest = requests;
         for _ in 0..STARTS {
-            if rest.is_empty() {
+            if rest.is_empty() || self.hung() {
                 break;
             }
-            let (answered, this) = ask_once(words, rest, &mut each);
+            let (answered, this) = partner.ask_once(rest, &mut each);
             ended = ended.and(this);
             rest = &rest[answered..];
             if let Some((silent, others)) = rest.split_first() {
@@ -61,11 +93,11 @@ impl Peer {
 
     /// Gives the command a whole input as it stands.
     pub fn talk(&self, input: &[u8]) -> Result<Talk, String> {
-        let Peer::Command(words) = self else {
-            let mut talk = Talk {
-                output: Vec::new(),
-                messages: Vec::new(),
-            };
+        let mut talk = Talk {
+            output: Vec::new(),
+            messages: Vec::new(),
+        };
+        let Peer::Command(partner) = self else {
             answer_all(
                 &mut io::Cursor::new(input),
                 &mut talk.output,
@@ -73,84 +105,205 @@ impl Peer {
             );
             return Ok(talk);
         };
-        let mut command = command(words);
-        let mut child = command
-            .stderr(Stdio::piped())
-            .spawn()
-            .map_err(|e| format!("{}: {e}", words[0]))?;
-        let mut pipe = child.stdin.take().expect("a pipe to write to");
-        let done = std::thread::scope(|scope| {
-            scope.spawn(move || {
-                let _ = pipe.write_all(input);
-            });
-            child.wait_with_output()
-        });
-        let done = done.map_err(|e| e.to_string())?;
-        Ok(Talk {
-            output: done.stdout,
-            messages: done.stderr,
-        })
+        if self.hung() {
+            return Err("the command hung before, and is not asked again".to_string());
+        }
+        let mut running = partner.start(input.to_vec(), true)?;
+        loop {
+            match running.next()? {
+                Piece::Said(piece) => talk.output.extend(piece),
+                Piece::Told(piece) => talk.messages.extend(piece),
+                Piece::Over => break,
+            }
+            if talk.output.len() + talk.messages.len() > input.len() + ANSWER_MAX {
+                return Err("the command says more than any answer has".to_string());
+            }
+        }
+        running.end()?;
+        Ok(talk)
     }
 }
 
-fn command(words: &[String]) -> Command {
-    let mut command = Command::new(&words[0]);
-    command
-        .args(&words[1..])
-        .stdin(Stdio::piped())
-        .stdout(Stdio::piped());
-    command
+/// What comes from a command that runs.
+enum Piece {
+    Said(Vec<u8>),
+    Told(Vec<u8>),
+    Over,
 }
 
-/// Asks in one process: how many answers came, and whether it ended as it should.
-fn ask_once(
-    words: &[String],
-    requests: &[Request],
-    each: &mut impl FnMut(&Request, Option<&[u8]>),
-) -> (usize, Result<(), String>) {
-    let mut child = match command(words).spawn() {
-        Ok(child) => child,
-        Err(e) => return (0, Err(format!("{}: {e}", words[0]))),
-    };
-    let input = child.stdin.take().expect("a pipe to write to");
-    let output = child.stdout.take().expect("a pipe to read from");
-    let (answered, rest) = std::thread::scope(|scope| {
-        // The writer has its own thread, so that neither side waits for the other.
-        scope.spawn(move || {
-            let mut input = BufWriter::with_capacity(1 << 20, input);
-            for r in requests {
-                let mut text = r.line();
-                text.push(b'\n');
-                // A command that has ended shows as answers that do not come.
-                if input.write_all(&text).is_err() {
-                    return;
+/// What the threads report that write to it and read from it.
+enum Event {
+    Took,
+    Said(Vec<u8>),
+    Told(Vec<u8>),
+}
+
+/// A command that runs. It is killed where it is left before its end.
+struct Running<'a> {
+    partner: &'a Partner,
+    child: Child,
+    events: Receiver<Event>,
+    ended: bool,
+}
+
+impl Partner {
+    /// Starts the command in a process group of its own, since it may be a script with children, and gives it the input.
+    /// Each pipe has its own thread, so that neither side waits for the other. A thread is not waited for: a pipe that
+    /// someone else holds may stay open for ever.
+    fn start(&self, input: Vec<u8>, messages: bool) -> Result<Running<'_>, String> {
+        let mut command = Command::new(&self.words[0]);
+        command
+            .args(&self.words[1..])
+            .stdin(Stdio::piped())
+            .stdout(Stdio::piped())
+            .process_group(0);
+        if messages {
+            command.stderr(Stdio::piped());
+        }
+        let mut child = command
+            .spawn()
+            .map_err(|e| format!("{}: {e}", self.words[0]))?;
+        let (events, received) = sync_channel(WAITING);
+        if let Some(pipe) = child.stdin.take() {
+            let events = events.clone();
+            thread::spawn(move || give(pipe, &input, &events));
+        }
+        if let Some(pipe) = child.stdout.take() {
+            let events = events.clone();
+            thread::spawn(move || pass_on(pipe, &events, Event::Said));
+        }
+        if let Some(pipe) = child.stderr.take() {
+            thread::spawn(move || pass_on(pipe, &events, Event::Told));
+        }
+        Ok(Running {
+            partner: self,
+            child,
+            events: received,
+            ended: false,
+        })
+    }
+
+    /// Asks in one process: how many answers came, and whether it ended as it should.
+    fn ask_once(
+        &self,
+        requests: &[Request],
+        each: &mut impl FnMut(&Request, Option<&[u8]>),
+    ) -> (usize, Result<(), String>) {
+        let mut input = Vec::new();
+        for r in requests {
+            input.extend(r.line());
+            input.push(b'\n');
+        }
+        let mut answered = 0;
+        let asked = || -> Result<(), String> {
+            let mut running = self.start(input, false)?;
+            let mut held: Vec<u8> = Vec::new();
+            // Where no LF was found yet is not looked at twice.
+            let mut looked = 0;
+            while let Piece::Said(piece) = running.next()? {
+                held.extend(piece);
+                let mut begin = 0;
+                while let Some(more) = held[looked..].iter().position(|&c| c == b'\n') {
+                    let Some(request) = requests.get(answered) else {
+                        break;
+                    };
+                    each(request, Some(&held[begin..looked + more]));
+                    answered += 1;
+                    looked += more + 1;
+                    begin = looked;
+                }
+                if answered == requests.len() && begin < held.len() {
+                    return Err("more came after the last answer".to_string());
+                }
+                held.drain(..begin);
+                looked = held.len();
+                if looked > ANSWER_MAX {
+                    return Err("the command says more than any answer has".to_string());
                 }
             }
-            let _ = input.flush();
-        });
-        let mut output = BufReader::with_capacity(1 << 20, output);
-        let mut answer = Vec::new();
-        let mut answered = 0;
-        for r in requests {
-            answer.clear();
-            let _ = output.read_until(b'\n', &mut answer);
-            match answer.strip_suffix(b"\n") {
-                None => break,
-                found => each(r, found),
+            let status = running.end()?;
+            if status.success() {
+                Ok(())
+            } else {
+                Err(format!("the command ended with {status}"))
             }
-            answered += 1;
+        };
+        let ended = asked();
+        (answered, ended)
+    }
+}
+
+impl Running<'_> {
+    /// The next piece of what it says; an error where it neither takes nor says anything for so long.
+    fn next(&mut self) -> Result<Piece, String> {
+        loop {
+            match self.events.recv_timeout(self.partner.patience) {
+                Ok(Event::Took) => {}
+                Ok(Event::Said(piece)) => return Ok(Piece::Said(piece)),
+                Ok(Event::Told(piece)) => return Ok(Piece::Told(piece)),
+                Err(RecvTimeoutError::Disconnected) => return Ok(Piece::Over),
+                Err(RecvTimeoutError::Timeout) => return Err(self.hangs()),
+            }
         }
-        let mut rest = Vec::new();
-        let _ = output.read_to_end(&mut rest);
-        (answered, rest.len())
-    });
-    let ended = match child.wait() {
-        Err(e) => Err(e.to_string()),
-        Ok(status) if !status.success() => Err(format!("the command ended with {status}")),
-        Ok(_) if rest > 0 => Err(format!("{rest} bytes came after the last answer")),
-        Ok(_) => Ok(()),
-    };
-    (answered, ended)
+    }
+
+    /// Waits for its end, once its pipes are closed.
+    fn end(mut self) -> Result<ExitStatus, String> {
+        let began = Instant::now();
+        loop {
+            if let Some(status) = self.child.try_wait().map_err(|e| e.to_string())? {
+                self.ended = true;
+                return Ok(status);
+            }
+            if began.elapsed() > self.partner.patience {
+                return Err(self.hangs());
+            }
+            thread::sleep(Duration::from_millis(1));
+        }
+    }
+
+    fn hangs(&self) -> String {
+        self.partner.hung.set(true);
+        let seconds = self.partner.patience.as_secs();
+        format!("the command did nothing for {seconds} seconds")
+    }
+}
+
+impl Drop for Running<'_> {
+    /// Kills its whole group, by the shell's own `kill`, since the standard library kills one process alone.
+    fn drop(&mut self) {
+        if self.ended {
+            return;
+        }
+        let group = format!("-{}", self.child.id());
+        let _ = Command::new("sh")
+            .args(["-c", "kill -s KILL -- \"$1\"", "sh", &group])
+            .stderr(Stdio::null())
+            .status();
+        let _ = self.child.kill();
+        let _ = self.child.wait();
+    }
+}
+
+/// Writes the input, and reports each piece that is taken. A command may end before it has taken all.
+fn give(mut pipe: impl Write, input: &[u8], events: &SyncSender<Event>) {
+    for piece in input.chunks(PIECE) {
+        if pipe.write_all(piece).is_err() || events.send(Event::Took).is_err() {
+            return;
+        }
+    }
+}
+
+/// Reads to the end, and reports each piece.
+fn pass_on(mut pipe: impl Read, events: &SyncSender<Event>, event: fn(Vec<u8>) -> Event) {
+    let mut piece = vec![0; PIECE];
+    loop {
+        match pipe.read(&mut piece) {
+            Err(e) if e.kind() == io::ErrorKind::Interrupted => {}
+            Ok(n) if n > 0 && events.send(event(piece[..n].to_vec())).is_ok() => {}
+            _ => return,
+        }
+    }
 }
 
 /// What a line is answered with: a request's answer, a comment itself, each with its LF; or why it is malformed.

@@ -23,7 +23,7 @@ pub struct Call {
 
 /// What 0 and 1 mean for calls that give no refusal numbers.
 pub const CLASSES: &str =
-    "words.*, print.*, next_line, line_from, first_number: 0 found or done, 1 nothing there (no room); is_words, is_image, is_reading, is_protected, programmable, id_fits: the answer; \
+    "words.*, print.*, next_line, line_from, first_number, third_line: 0 found or done, 1 nothing there (no room); is_words, is_image, is_reading, is_protected, programmable, id_fits: the answer; \
      plan.wanted: 0 given by the image, 1 not";
 
 #[derive(Clone, Debug)]
@@ -277,6 +277,29 @@ fn next_line(f: &[Field]) -> Reply {
 fn first_number(f: &[Field]) -> Reply {
     let number: u32 = (!field::bytes(f, 0).is_empty()).into();
     reply(1 - number, vec![number.into()])
+}
+
+/// The third line, and past the last line an empty one at the text's end, with the number of the last and the place past it. Here the
+/// text is split at its LFs, and no line is taken after another.
+fn third_line(f: &[Field]) -> Reply {
+    let text = field::bytes(f, 0);
+    let mut pieces: Vec<&[u8]> = text.split(|&c| c == b'\n').collect();
+    // Nothing after the last LF is no line.
+    if pieces.last().is_some_and(|piece| piece.is_empty()) {
+        pieces.pop();
+    }
+    let past = |lines: usize| -> usize { pieces[..lines].iter().map(|p| p.len() + 1).sum() };
+    let count = pieces.len();
+    let (start, stop, at) = if let Some(third) = pieces.get(2) {
+        let length = third.strip_suffix(b"\r").unwrap_or(third).len();
+        (past(2), past(2) + length, past(3))
+    } else {
+        (text.len(), text.len(), past(count))
+    };
+    reply(
+        u32::from(count < 3),
+        vec![start.into(), stop.into(), at.into(), count.min(3).into()],
+    )
 }
 
 /// What a step is asked with: record, counter, latches, code, payload, words and cells.
@@ -812,5 +835,11 @@ pub static CALLS: &[Call] = &[
         kinds: &[Bytes],
         classes: &[0, 1],
         own: first_number,
+    },
+    Call {
+        name: "lent.third_line",
+        kinds: &[Bytes],
+        classes: &[0, 1],
+        own: third_line,
     },
 ];

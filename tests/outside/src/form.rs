@@ -146,6 +146,8 @@ fn malformed() -> Vec<Vec<u8>> {
         "print.verdict 40 65536 0 -",
         "print.text -",
         "board.open_record -",
+        "lent.third_line",
+        "lent.third_line - -",
         "board.open_board - -",
         "board.open_board - - 65536",
         " # no comment",

@@ -25,6 +25,7 @@ use calls::{Request, CALLS};
 use gen::Manner;
 use rng::Rng;
 use std::process::ExitCode;
+use std::time::Duration;
 use tally::Tally;
 
 const USAGE: &str = "\
@@ -32,11 +33,12 @@ outside [options] COMMAND [ARGS...]   hold COMMAND's answers against our own
 outside [options] --self              the worked cases, round trips and cuts on our own implementation
 outside --mock                        answer requests on standard input with our own implementation
 
-  --seed N     the seed of all inputs
-  --cases N    free inputs a call, beside those aimed at its numbers
-  --cuts N     cut runs
-  --long       the long form: 20,000 cases, 100,000 cuts
-  --only NAME  only the calls whose name begins so; no cuts, no malformed requests";
+  --seed N            the seed of all inputs
+  --cases N           free inputs a call, beside those aimed at its numbers
+  --cuts N            cut runs
+  --long              the long form: 20,000 cases, 100,000 cuts
+  --only NAME         only the calls whose name begins so; no cuts, no malformed requests
+  --patience SECONDS  how long the command may do nothing before it is killed: 120";
 
 /// Inputs aimed at each number of each call: above the hundred that must be seen, since an aim can miss.
 const AIMED: usize = 125;
@@ -51,6 +53,7 @@ struct Options {
     own: bool,
     mock: bool,
     only: String,
+    patience: Duration,
     command: Vec<String>,
 }
 
@@ -62,6 +65,7 @@ fn options() -> Result<Options, String> {
         own: false,
         mock: false,
         only: String::new(),
+        patience: Duration::from_secs(120),
         command: Vec::new(),
     };
     let mut words = std::env::args().skip(1);
@@ -73,6 +77,7 @@ fn options() -> Result<Options, String> {
             "--cases" => o.cases = number(value()?)? as usize,
             "--cuts" => o.cuts = number(value()?)? as usize,
             "--only" => o.only = value()?,
+            "--patience" => o.patience = Duration::from_secs(number(value()?)?),
             "--long" => (o.cases, o.cuts) = (20_000, 100_000),
             "--self" => o.own = true,
             "--mock" => o.mock = true,
@@ -84,6 +89,12 @@ fn options() -> Result<Options, String> {
     }
     if o.command.is_empty() && !o.own && !o.mock {
         return Err("no command".to_string());
+    }
+    if !CALLS.iter().any(|c| c.name.starts_with(&o.only)) {
+        return Err(format!("no call has a name that begins with {}", o.only));
+    }
+    if o.patience.is_zero() {
+        return Err("--patience wants at least one second".to_string());
     }
     Ok(o)
 }
@@ -145,6 +156,9 @@ fn compare_all(o: &Options, peer: &Peer, tally: &mut Tally) {
         .enumerate()
         .filter(|(_, c)| c.name.starts_with(&o.only))
     {
+        if peer.hung() {
+            return;
+        }
         for &class in call.classes {
             for _ in 0..AIMED {
                 asker.put(gen::request(i, Manner::Aimed(class), &mut rng));
@@ -173,22 +187,28 @@ fn main() -> ExitCode {
     let peer = if o.own {
         Peer::Own
     } else {
-        Peer::Command(o.command.clone())
+        Peer::command(o.command.clone(), o.patience)
     };
     let mut tally = Tally::new();
     worked::check(&peer, &mut tally);
     worked::round_trips(&mut Rng::new(o.seed ^ 1), &mut tally);
-    if !o.own {
+    if !o.own && !peer.hung() {
         compare_all(&o, &peer, &mut tally);
         tally.report(&|name| name.starts_with(&o.only));
     }
-    if o.only.is_empty() {
-        form::check(&peer, &mut tally);
-        cuts::check(&peer, o.cuts, &mut Rng::new(o.seed ^ 2), &mut tally);
-    } else {
+    if !o.only.is_empty() {
         println!(
             "--only {}: malformed requests and cuts are left out",
             o.only
+        );
+    } else if !peer.hung() {
+        form::check(&peer, &mut tally);
+        cuts::check(&peer, o.cuts, &mut Rng::new(o.seed ^ 2), &mut tally);
+    }
+    if peer.hung() {
+        println!(
+            "the command did nothing for {} seconds and was killed; nothing more was asked of it",
+            o.patience.as_secs()
         );
     }
     println!("{} passed, {} failed", tally.passed, tally.failed);

@@ -65,6 +65,7 @@ fn aimed(call: usize, aim: u32, rng: &mut Rng) -> Vec<Field> {
         "print" => texts::print(rest, aim == 1, rng),
         "board" => benches::board(rest, aim, rng),
         "lent" if rest == "first_number" => texts::first_number(aim == 1, rng),
+        "lent" if rest == "third_line" => texts::third_line(aim == 1, rng),
         "lent" => plans::target("step", aim, rng),
         _ => benches::bench(rest, aim, rng),
     }

@@ -231,6 +231,16 @@ pub fn first_number(nothing: bool, rng: &mut Rng) -> Vec<Field> {
     vec![short_lines(lines, rng).0.into()]
 }
 
+/// A text of three to five short lines, or of fewer.
+pub fn third_line(nothing: bool, rng: &mut Rng) -> Vec<Field> {
+    let lines = if nothing {
+        rng.below(3)
+    } else {
+        rng.between(3, 5)
+    };
+    vec![short_lines(lines, rng).0.into()]
+}
+
 /// A text of short lines, a place in it (mostly where a line begins) or past it, and the number of the line before.
 pub fn next_line(nothing: bool, rng: &mut Rng) -> Vec<Field> {
     let lines = rng.below(8) + usize::from(!nothing);

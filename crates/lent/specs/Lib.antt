@@ -1,0 +1,2 @@
+-- The lines of a text, one after another.
+pub mod Text
