@@ -1,24 +1,45 @@
 // Hex digits, read from text and put into it. A place where the digits do not stand answers one past the largest number.
-use crate::table::DIGITS;
 ghost use mathlib.Core.Path.{_≡_};
 ghost use Prim.Native.Nat.{_≤_, _<_};
 ghost use lib.ListN.{set};
 ghost use lib.Seq.{sets};
 ghost use Rattle.words.specs.Lists.{build};
-ghost use Rattle.numerals.specs.Hex.{digitOf, capitalOf, byteBy, wordBy, joined, digitText, byteText, wordText};
+ghost use Rattle.numerals.specs.Hex.{within, digitOf, capitalOf, byteBy, wordBy, joined, digitText, byteText, wordText};
 
 // The value of a hex digit of either case; 16 for any other character.
 pub fn digit(c: u8) -> u8
     ensures { λ r. ⌜ r ≡ digitOf c ⌝ }
 {
-    DIGITS[c as usize]
+    if within(b'0', b'9', c) {
+        return c - b'0';
+    }
+    if within(b'A', b'F', c) {
+        return c - b'A' + 10;
+    }
+    if within(b'a', b'f', c) {
+        return c - b'a' + 10;
+    }
+    16
+}
+
+// Whether c is one of the characters from a to b.
+fn within(a: u8, b: u8, c: u8) -> bool
+    ensures { λ r. ⌜ r ≡ within a b c ⌝ }
+{
+    if a <= c { c <= b } else { false }
 }
 
 // The value of every character as a hex digit of either case, 16 for those that are none: a table to look many up in.
 pub fn digits() -> [u8; 256]
     ensures { λ r. ⌜ r ≡ build 256 digitOf ⌝ }
 {
-    DIGITS
+    let mut table = [0u8; 256];
+    let mut i: usize = 0;
+    while i < 256 {
+        table[i] = digit(i as u8);
+        i += 1;
+    }
+    table
 }
 
 // The value of a digit 0-9 or A-F; 16 for any other character.

@@ -1,4 +1,3 @@
 // The text of hex and decimal numbers. No call here has a `requires`.
 pub mod decimal;
 pub mod hex;
-mod table;
