@@ -16,11 +16,11 @@ use Rattle.numerals.proofs.hex.digits.Tie as tie
 abbrev Filled : ℕ → List ℕ → Type 0
 Filled i table = (k : ℕ) → k < i → getD table k 0 ≡ digitOf k
 
-filled-more : (i v : ℕ) (table : List ℕ) → length table ≡ 256 → Filled i table → i < 256 → v ≡ digitOf i → Filled (i + 1) (set table i v)
-filled-more i v table long below h e k p = by (ℕ-discrete k i)
+filled-more : (i v : ℕ) (table : List ℕ) → Filled i table → i < length table → v ≡ digitOf i → Filled (i + 1) (set table i v)
+filled-more i v table below h e k p = by (ℕ-discrete k i)
   where
     by : Dec (k ≡ i) → getD (set table i v) k 0 ≡ digitOf k
-    by (yes q) = ap (λ j. getD (set table i v) j 0) q ∙ (getD-set-same table i v 0 (omega arith) ∙ (e ∙ ap digitOf (sym q)))
+    by (yes q) = ap (λ j. getD (set table i v) j 0) q ∙ (getD-set-same table i v 0 h ∙ (e ∙ ap digitOf (sym q)))
     by (no q) = getD-set-other table i k v 0 q ∙ below k (omega (arith, q))
 
 abbrev Inv-loop : tie.InvT-loop
@@ -48,7 +48,9 @@ loop-less : tie.Need-loop-less Inv-loop μ-loop
 loop-less c = omega arith
 
 loop-again : tie.Need-loop-again Inv-loop μ-loop
-loop-again c = (omega arith, rw length-set (omega arith), search (filled-more, needs))
+loop-again c =
+    let l = c .before .before .loop in
+    (omega arith, rw length-set (omega arith), filled-more (l .i) _ (l .table) (l .inv .2) (omega arith) (c .digit .ensures))
 
 returns : tie.Need-returns Inv-loop μ-loop
 returns c = built _ 256 digitOf (omega arith) (λ k p. c .before .loop .inv .2 k (omega arith))
