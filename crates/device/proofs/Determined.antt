@@ -4,6 +4,7 @@ use Rattle.words.specs.LawsPromise.{determined}
 use Rattle.device.proofs.record.judge.Reads as judge
 use Rattle.device.proofs.record.id_fits.Reads as id-fits
 use Rattle.device.proofs.memory.programmable.Reads as programmable
+use Rattle.device.proofs.memory.under_mask.Reads as under-mask
 use Rattle.device.proofs.memory.is_reading.Reads as is-reading
 use Rattle.device.proofs.image.is_image.Reads as is-image
 use Rattle.device.proofs.memory.is_protected.Reads as is-protected
@@ -16,6 +17,9 @@ id-fits-determined κs a r s x y p q = determined p q
 
 pub programmable-determined : (κs : _) (a : _) (r s : _) (x y : _) → programmable.Post κs a r x → programmable.Post κs a s y → r ≡ s
 programmable-determined κs a r s x y p q = determined p q
+
+pub under-mask-determined : (κs : _) (a : _) (r s : _) (x y : _) → under-mask.Post κs a r x → under-mask.Post κs a s y → r ≡ s
+under-mask-determined κs a r s x y p q = determined p q
 
 pub is-reading-determined : (κs : _) (a : _) (r s : _) (x y : _) → is-reading.Post κs a r x → is-reading.Post κs a s y → r ≡ s
 is-reading-determined κs a r s x y p q = determined p q

@@ -4,3 +4,4 @@ pub mod Memory
 pub mod LawsRecord
 pub mod LawsMemory
 pub mod LawsImage
+pub mod LawsMask

@@ -4,8 +4,10 @@ use mathlib.Core.Bool.{Bool, _&&_, _||_}
 use mathlib.Core.List.{List}
 use lib.Dec.{ltb, eqb}
 use lib.ListN.{length, getD}
-use Rattle.words.specs.Word.{notGiven, isWord, bit, wordsOf}
+use Rattle.words.specs.Choice.{pick}
+use Rattle.words.specs.Word.{erased, notGiven, isWord, bit, wordsOf}
 use Rattle.words.specs.Lists.{every, inRange}
+use Rattle.device.specs.declared.Device.{Device}
 
 -- ---- places
 
@@ -37,6 +39,12 @@ isConfig k = inRange 7 2 k
 -- entry i is a program word, a user ID or a configuration word
 unfoldable pub programmable : (words i : ℕ) → Bool
 programmable words i = ltb i words || ltb (i - words) ids || isConfig (i - words)
+
+-- ---- masks: which bits entry i has
+
+-- configuration words have those of their masks, every other word has all
+unfoldable pub maskAt : Device → ℕ → ℕ
+maskAt d i = pick (eqb i (d .words + 7)) (d .mask1) (pick (eqb i (d .words + 8)) (d .mask2) erased)
 
 -- ---- lists
 

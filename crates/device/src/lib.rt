@@ -7,6 +7,7 @@ pub use image::is_image;
 pub use memory::is_protected;
 pub use memory::is_reading;
 pub use memory::programmable;
+pub use memory::under_mask;
 pub use record::id_fits;
 pub use record::judge;
 

@@ -1,8 +1,11 @@
 // Places and readings of a device's memory.
+use crate::Device;
 use crate::IDS;
 use crate::READING_TAIL;
+use words::ERASED;
 ghost use mathlib.Core.Path.{_≡_};
-ghost use Rattle.device.specs.Memory.{isConfig, programmable, readingOk, protected};
+ghost use Rattle.words.specs.Word.{underMask};
+ghost use Rattle.device.specs.Memory.{isConfig, programmable, maskAt, readingOk, protected};
 
 // Whether entry i is a program word, a user ID or a configuration word.
 pub fn programmable(words: u16, i: usize) -> bool
@@ -26,6 +29,28 @@ fn is_config(k: usize) -> bool
         return false;
     }
     k < 9
+}
+
+// A new word over an old one at entry i: new bits under the entry's mask, old bits elsewhere.
+pub fn under_mask(d: Device, i: usize, new: u16, old: u16) -> u16
+    ensures { λ r. ⌜ r ≡ underMask (maskAt d i) new old ⌝ }
+{
+    let program = d.words as usize;
+    if i == program + 7 {
+        return merged(d.mask1, new, old);
+    }
+    if i == program + 8 {
+        return merged(d.mask2, new, old);
+    }
+    new
+}
+
+// New bits under a mask, old bits elsewhere.
+fn merged(mask: u16, new: u16, old: u16) -> u16
+    ensures { λ r. ⌜ r ≡ underMask mask new old ⌝ }
+{
+    let spare = ERASED ^ (ERASED & mask);
+    (new ^ (new & spare)) | (old & spare)
 }
 
 // Whether a list is a reading of a device with so many program words.

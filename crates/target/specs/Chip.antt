@@ -3,6 +3,7 @@ use Prim.Native.Nat.{ℕ}
 use mathlib.Core.Bool.{Bool, true, false, _||_}
 use lib.Dec.{ltb}
 use lib.Bits.{bitAnd}
+use Rattle.words.specs.Word.{underMask}
 use Rattle.words.specs.Address.{configBase, entryOf}
 use Rattle.device.specs.declared.Device.{Device}
 use Rattle.device.specs.Memory
@@ -51,5 +52,5 @@ chipOf d =
       isWritable = λ k. ltb k Memory.ids || Memory.isConfig k;
       rowErasesIds = true;
       resetBlanks = false;
-      burn = λ cell word latch. bitAnd word latch;
+      burn = λ cell word latch. underMask (Memory.maskAt d cell) (bitAnd word latch) word;
     }

@@ -13,19 +13,20 @@ use Rattle.words.specs.Choice.{pick}
 use Rattle.words.specs.Word.{erased}
 use Rattle.words.specs.Lists.{inRange, overlay}
 use Rattle.words.specs.LawsChoice.{pick-true, pick-false}
-use Rattle.words.specs.LawsLists.{getD-past, overlay-above, overlay-more, build-ext}
+use Rattle.words.specs.LawsLists.{getD-past, overlay-above, overlay-more, overlay-same, build-ext}
 use Rattle.words.specs.Address.{configBase, entryOf}
 use Rattle.words.specs.LawsAddress.{entry-config, entry-beyond}
 use Rattle.device.specs.declared.Device.{Device}
 use Rattle.device.specs.Memory.{readingTail, cellsTail, programmable}
 use Rattle.device.specs.Record.{mostWords}
+use Rattle.device.specs.LawsMask.{under-plain}
 use Rattle.device.specs.LawsMemory.{programmable-lt}
 use Rattle.device.specs.LawsRecord.{Rules, row-mask}
 use Rattle.target.specs.Chip.{Chip, chipOf}
 use Rattle.target.specs.Effects.{locked, edit, inProgram, atErase, rowErased, bulkErased, beginWritten, latchOf, burnt, wordRead}
 use Rattle.target.specs.LawsChip.{SoundChip, sound-chip}
 use Rattle.target.specs.LawsEdit.{edit-none, edit-range, edit-one, edit-ext, edit-then}
-use Rattle.target.specs.LawsHits.{in-program, not-program, latch-within, at-erase, below-erase, above-erase}
+use Rattle.target.specs.LawsHits.{in-program, not-program, latch-within, row-within, at-erase, below-erase, above-erase}
 use Rattle.target.specs.LawsHits.{row-erased-program, row-erased-locked, row-erased-nowhere, row-erased-ids, bulk-erased-ids, bulk-erased-words}
 use Rattle.target.specs.LawsHits.{begin-written-program, begin-written-locked, begin-written-between, begin-written-not, begin-written-one}
 
@@ -123,7 +124,7 @@ module _ (chip : Chip) (s : SoundChip chip) (a : ℕ) (latches cells : List ℕ)
   pub begin-locked : a < chip .words → (b : Bool) → b ≡ locked chip cells → b ≡ true → cells ≡ edit (beginWritten chip a cells) (burnt chip a latches cells) cells
   begin-locked h b e p = sym (edit-none _ _ cells (λ i. begin-written-locked chip s a cells i h (sym e ∙ p)))
 
-  pub begin-program : a < chip .words → (b : Bool) → b ≡ locked chip cells → b ≡ false
+  begin-program : a < chip .words → (b : Bool) → b ≡ locked chip cells → b ≡ false
       → (after : List ℕ) → after ≡ overlay (a / chip .group * chip .group) (chip .group) (λ i. chip .burn i (getD cells i 0) (getD latches (i % chip .group) 0)) cells
       → after ≡ edit (beginWritten chip a cells) (burnt chip a latches cells) cells
   begin-program h b e p after f = f ∙ sym (edit-range _ _ cells (a / chip .group * chip .group) (chip .group) (λ i q. begin-written-program chip s a cells i h (sym e ∙ p)) ∙ each)
@@ -172,6 +173,19 @@ module _ (d : Device) (r : Rules d) where
     pub cell-within : (cells : List ℕ) → length cells ≡ d .words + cellsTail → i < length cells
     cell-within cells l = let h : i < d .words + readingTail = programmable-lt (d .words) i (sym e ∙ t) in omega arith
 
+-- ---- Begin in this family: program words have every bit, so that each becomes itself AND its latch
+
+module _ (d : Device) (r : Rules d) (a : ℕ) (latches cells : List ℕ) where
+  pub begin-row : a < d .words → (b : Bool) → b ≡ locked (chipOf d) cells → b ≡ false
+      → (after : List ℕ) → after ≡ overlay (a / d .row * d .row) (d .row) (λ i. bitAnd (getD cells i 0) (getD latches (i % d .row) 0)) cells
+      → after ≡ edit (beginWritten (chipOf d) a cells) (burnt (chipOf d) a latches cells) cells
+  begin-row h b e p after f = begin-program (chipOf d) (sound-chip d r) a latches cells h b e p after (f ∙ overlay-same (a / d .row * d .row) (d .row) _ _ cells (λ i low high. sym (whole i high)))
+    where
+      whole : (i : ℕ) → i < a / d .row * d .row + d .row → chipOf d .burn i (getD cells i 0) (getD latches (i % d .row) 0) ≡ bitAnd (getD cells i 0) (getD latches (i % d .row) 0)
+      whole i high =
+          let k : a / d .row * d .row + d .row ≤ d .words = row-within (chipOf d) (sound-chip d r) a h in
+          under-plain d i (omega arith) _ _
+
 -- ---- Begin in this family, where a cell of configuration space can be written if its word is programmable
 
 module _ (d : Device) (r : Rules d) (a : ℕ) (latches cells : List ℕ) (h : configBase ≤ a) (i : ℕ) (e : i ≡ chipOf d .cell a) (b : Bool) (f : b ≡ programmable (d .words) i) where
@@ -191,5 +205,6 @@ module _ (d : Device) (r : Rules d) (a : ℕ) (latches cells : List ℕ) (h : co
   pub begin-other : b ≡ false → cells ≡ edit (beginWritten (chipOf d) a cells) (burnt (chipOf d) a latches cells) cells
   begin-other n = begin-not (chipOf d) (sound-chip d r) a latches cells h i e b can-write n
 
-  pub begin-word : b ≡ true → set cells i (bitAnd (getD cells i 0) (getD latches (a % d .row) 0)) ≡ edit (beginWritten (chipOf d) a cells) (burnt (chipOf d) a latches cells) cells
-  begin-word t = begin-one (chipOf d) (sound-chip d r) a latches cells h i e b can-write t
+  pub begin-word : b ≡ true → (word : ℕ) → word ≡ chipOf d .burn i (getD cells i 0) (getD latches (a % d .row) 0)
+      → set cells i word ≡ edit (beginWritten (chipOf d) a cells) (burnt (chipOf d) a latches cells) cells
+  begin-word t word w = ap (set cells i) w ∙ begin-one (chipOf d) (sound-chip d r) a latches cells h i e b can-write t

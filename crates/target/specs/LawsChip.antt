@@ -6,15 +6,16 @@ use mathlib.Core.Bool.{true, false}
 use mathlib.Core.Logic.{_⊎_, ⊎-elim}
 use lib.Dec.{ltb, eqb}
 use borrow.Author.Tests.{lt-ltb, ltb-true}
-use lib.Bits.{and-le-l}
+use lib.Bits.{bitAnd, and-le-l}
 use native.Mathlib.Nat.{lt-of-le-of-lt}
-use Rattle.words.specs.Word.{erased, bit, Between, Contains}
-use Rattle.words.specs.LawsWord.{between-contains, erased-contains, contains-self, write-over, erased-bit-seven}
+use Rattle.words.specs.Word.{erased, bit, Between}
+use Rattle.words.specs.LawsWord.{erased-bit-seven}
+use Rattle.words.specs.LawsMask.{Reaches, reaches-same, reaches-makes, reaches-torn, under-lt}
 use Rattle.words.specs.LawsTests.{or-cases, or-right}
 use Rattle.words.specs.LawsAddress.{entry-program, entry-config}
 use Rattle.device.specs.declared.Device.{Device}
 use Rattle.device.specs.Record.{mostWords}
-use Rattle.device.specs.Memory.{cellsTail, readingTail, isConfig}
+use Rattle.device.specs.Memory.{cellsTail, readingTail, isConfig, maskAt}
 use Rattle.device.specs.LawsMemory.{config-inside, config-range}
 use Rattle.device.specs.LawsRecord.{Rules, Row, row, whole-rows}
 use Rattle.target.specs.Chip.{Chip, chipOf}
@@ -96,15 +97,15 @@ sound-chip d r =
         let e : 0x8000 + k - 0x8000 ≡ k = omega arith in
         entry-config 0x8000 (d .words) 11 (0x8000 + k) (omega arith) (omega arith) (omega arith) ∙ ap (λ n. d .words + n) e
 
--- a write is AND: what has every bit of the wanted word can still be written to it
+-- a write clears bits under a cell's mask: what has every spare bit as wanted, and every bit that wanted has, can still be written to it
 unfoldable pub burning : (d : Device) → Burning (chipOf d)
 burning d =
     record {
-      Can = λ i word wanted. Contains word wanted;
-      Takes = λ i wanted. wanted < 0x4000;
-      can-same = λ i v. contains-self v;
-      can-erased = λ i v h. erased-contains v h;
-      can-makes = λ i x v h. write-over x v h;
-      can-torn = λ i x v w h b. between-contains x v w v h (contains-self v) b;
-      burn-fits = λ i x v h. lt-of-le-of-lt (and-le-l x v) h;
+      Can = λ i word wanted. Reaches (maskAt d i) word wanted;
+      Takes = λ i wanted. Reaches (maskAt d i) erased wanted;
+      can-same = λ i v. reaches-same (maskAt d i) v;
+      can-erased = λ i v h. h;
+      can-makes = λ i x v h. reaches-makes (maskAt d i) x v h;
+      can-torn = λ i x v w h b. reaches-torn (maskAt d i) x v w h b;
+      burn-fits = λ i x v h. under-lt (maskAt d i) (bitAnd x v) x (lt-of-le-of-lt (and-le-l x v) h) h;
     }

@@ -107,8 +107,15 @@ pub(crate) fn write_at(d: Device, at: WordAddress, latches: &[u16; 32], cells: &
     }
     let i = cell_of(d, at);
     if device::programmable(d.words, i) {
-        cells[i] = cells[i] & latches[a % row];
+        cells[i] = burn(d, i, cells[i], latches[a % row]);
     }
+}
+
+// What a write makes of a cell's word: itself AND the latch, in the bits that the cell has.
+fn burn(d: Device, i: usize, word: u16, latch: u16) -> u16
+    ensures { λ r. ⌜ r ≡ chipOf d .burn i word latch ⌝ }
+{
+    device::under_mask(d, i, word & latch, word)
 }
 
 // Each word of a row becomes itself AND its latch.

@@ -97,6 +97,17 @@ module _ (first count : ℕ) (f : ℕ → ℕ) (l : List ℕ) (i : ℕ) where
   pub overlay-above : first + count ≤ i → getD (overlay first count f l) i 0 ≡ getD l i 0
   overlay-above p = overlay-outside (above-range first count i p)
 
+-- only what is put into the range has a say
+pub overlay-same : (first count : ℕ) (f g : ℕ → ℕ) (l : List ℕ) → ((i : ℕ) → first ≤ i → i < first + count → f i ≡ g i) → overlay first count f l ≡ overlay first count g l
+overlay-same first count f g l same =
+    same-entries (overlay first count f l) (overlay first count g l) (length-overlay first count f l ∙ sym (length-overlay first count g l))
+    (λ i h. at-each i (rw length-overlay at h) (decLt i first) (decLt i (first + count)))
+  where
+    at-each : (i : ℕ) → i < length l → Dec (i < first) → Dec (i < first + count) → getD (overlay first count f l) i 0 ≡ getD (overlay first count g l) i 0
+    at-each i h (yes p) q = overlay-below first count f l i p ∙ sym (overlay-below first count g l i p)
+    at-each i h (no p) (yes q) = overlay-inside first count f l i h (omega arith) q ∙ (same i (omega arith) q ∙ sym (overlay-inside first count g l i h (omega arith) q))
+    at-each i h (no p) (no q) = overlay-above first count f l i (omega arith) ∙ sym (overlay-above first count g l i (omega arith))
+
 -- no entry replaced
 pub overlay-none : (first : ℕ) (f : ℕ → ℕ) (l : List ℕ) → overlay first 0 f l ≡ l
 overlay-none first f l = same-entries (overlay first 0 f l) l (length-overlay first 0 f l) (λ i h. at-each i (decLt i first))

@@ -7,6 +7,7 @@ pub mod LawsPromise
 pub mod LawsChoice
 pub mod LawsTests
 pub mod LawsWord
+pub mod LawsMask
 pub mod LawsAddress
 pub mod LawsLists
 pub mod LawsJoined

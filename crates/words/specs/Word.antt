@@ -1,4 +1,4 @@
--- Words of the target ('Memory of the target'): 14 bits; and what 'each bit is the old one or the new one' means for a cut.
+-- Words of the target ('Memory of the target'): 14 bits; what 'each bit is the old one or the new one' means for a cut; and words under a mask.
 use Prim.Native.Nat.{ℕ, _/_, _%_, _^_}
 use mathlib.Core.Path.{_≡_}
 use mathlib.Core.Bool.{Bool, _&&_}
@@ -6,7 +6,7 @@ use mathlib.Core.List.{List}
 use mathlib.Core.Logic.{_⊎_}
 use lib.Dec.{ltb, eqb}
 use lib.ListN.{length, getD}
-use lib.Bits.{bitAnd}
+use lib.Bits.{bitAnd, bitOr, bitXor}
 use Rattle.words.specs.Lists.{every}
 
 -- an erased word: every bit is 1
@@ -32,6 +32,22 @@ Between old new w = (i : ℕ) → (bit w i ≡ bit old i) ⊎ (bit w i ≡ bit n
 -- w has every bit that x has, so that a write of x over w gives x
 unfoldable pub Contains : ℕ → ℕ → Type 0
 Contains w x = bitAnd w x ≡ x
+
+-- ---- masks: the 1 bits of a mask are those that a word has
+
+-- a word without these bits
+unfoldable pub without : (bits w : ℕ) → ℕ
+without bits w = bitXor w (bitAnd w bits)
+
+-- the bits of 14 that a mask leaves out
+unfoldable pub spare : (mask : ℕ) → ℕ
+spare mask = without mask erased
+
+-- new bits under a mask, old bits elsewhere
+unfoldable pub underMask : (mask new old : ℕ) → ℕ
+underMask mask new old = bitOr (without (spare mask) new) (bitAnd old (spare mask))
+
+-- ---- lists
 
 -- a list of n words
 unfoldable pub wordsOf : ℕ → List ℕ → Bool
