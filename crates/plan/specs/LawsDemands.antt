@@ -10,18 +10,20 @@ use lib.ListN.{length, getD, take, drop}
 use lib.Seq.{sets, sets-eq, take-at}
 use borrow.Author.Tests.{leb-true, eq-eqb}
 use Rattle.words.specs.Choice.{pick}
-use Rattle.words.specs.Word.{erased, notGiven}
+use Rattle.words.specs.Word.{erased, notGiven, bit, underMask}
+use Rattle.words.specs.LawsMask.{erased-bit, under-inside, under-outside}
 use Rattle.words.specs.LawsChoice.{pick-true, pick-false}
 use Rattle.words.specs.LawsLists.{getD-build}
 use Rattle.device.specs.declared.Device.{Device}
-use Rattle.device.specs.Memory.{programmable}
+use Rattle.device.specs.Memory.{ids, programmable, maskAt}
+use Rattle.device.specs.LawsMemory.{programmable-low}
 use Rattle.target.specs.Stream.{bytesOf}
 use Rattle.target.specs.LawsStream.{length-bytes}
 use Rattle.target.specs.declared.Order.{Order}
 use Rattle.plan.specs.Wanted.{known, wanted}
 use Rattle.plan.specs.Answers.{planned, plannedOut}
 use Rattle.plan.specs.Demands.{programmed}
-use Rattle.plan.specs.LawsWanted.{wanted-silent, wanted-given}
+use Rattle.plan.specs.LawsWanted.{wanted-silent, wanted-given, wanted-whole}
 
 -- ---- the programmed cells, word by word
 
@@ -30,9 +32,21 @@ module _ (d : Device) (image reading first : List ℕ) (i : ℕ) (h : i < length
   unfolding programmed
   entry = getD-build (length first) _ i h
 
-  -- a word that the image gives has its new value
-  pub given-word : programmable (d .words) i ≡ true → (getD image i notGiven ≡ notGiven → ⊥) → getD (programmed d image reading first) i 0 ≡ getD image i notGiven
-  given-word p g = entry ∙ (pick-true (programmable (d .words) i) _ _ p ∙ wanted-given d image reading i g)
+  -- a program word or user ID that the image gives has its new value
+  pub given-word : i < d .words + ids → (getD image i notGiven ≡ notGiven → ⊥) → getD (programmed d image reading first) i 0 ≡ getD image i notGiven
+  given-word p g = entry ∙ (pick-true (programmable (d .words) i) _ _ (programmable-low (d .words) i p) ∙ wanted-whole d image reading i (omega arith) g)
+
+  -- any word that it gives, a configuration word too, has the image's bits under its mask, and elsewhere the known ones
+  pub given-config : programmable (d .words) i ≡ true → (getD image i notGiven ≡ notGiven → ⊥) → (n : ℕ) → n < 14
+      → (bit (maskAt d i) n ≡ 1 → bit (getD (programmed d image reading first) i 0) n ≡ bit (getD image i notGiven) n)
+      × (bit (maskAt d i) n ≡ 0 → bit (getD (programmed d image reading first) i 0) n ≡ bit (known reading i) n)
+  given-config p g n h = (
+    λ e. ap (λ w. bit w n) made ∙ under-inside (maskAt d i) (getD image i notGiven) (known reading i) n e,
+    λ e. ap (λ w. bit w n) made ∙ under-outside (maskAt d i) (getD image i notGiven) (known reading i) n h e,
+  )
+    where
+      made : getD (programmed d image reading first) i 0 ≡ underMask (maskAt d i) (getD image i notGiven) (known reading i)
+      made = entry ∙ (pick-true (programmable (d .words) i) _ _ p ∙ wanted-given d image reading i g)
 
   -- a word that it does not give is the known one
   pub silent-word : programmable (d .words) i ≡ true → getD image i notGiven ≡ notGiven → getD (programmed d image reading first) i 0 ≡ known reading i
@@ -42,10 +56,13 @@ module _ (d : Device) (image reading first : List ℕ) (i : ℕ) (h : i < length
   pub other-word : programmable (d .words) i ≡ false → getD (programmed d image reading first) i 0 ≡ getD first i 0
   other-word p = entry ∙ pick-false (programmable (d .words) i) _ _ p
 
--- for a fresh programming 'known' is erased
+-- for a fresh programming 'known' is erased, and so every bit of it is 1
 pub nothing-known : (i : ℕ) → known [] i ≡ erased
 unfolding known
 nothing-known i = refl
+
+pub nothing-known-bit : (i n : ℕ) → n < 14 → bit (known [] i) n ≡ 1
+nothing-known-bit i n h = ap (λ w. bit w n) (nothing-known i) ∙ erased-bit n h
 
 -- ---- the bytes that a planner writes are the stream's
 

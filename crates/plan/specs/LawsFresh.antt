@@ -9,7 +9,7 @@ use borrow.Author.Tests.{lt-ltb}
 use lib.Dec.{ltb}
 use Rattle.words.specs.Word.{erased}
 use Rattle.words.specs.LawsChoice.{pick-true, true-not-false}
-use Rattle.words.specs.LawsWord.{words-long, words-each}
+use Rattle.words.specs.LawsWord.{words-long, words-each, erased-contains}
 use Rattle.device.specs.declared.Device.{Device}
 use Rattle.device.specs.Memory.{cellsTail, zeroBit}
 use Rattle.device.specs.LawsRecord.{Rules, rules}
@@ -35,7 +35,7 @@ use Rattle.plan.specs.Wanted.{known, wanted}
 use Rattle.plan.specs.Steps.{Task, taskOf, bodyOf, freshTask, freshSteps}
 use Rattle.plan.specs.Answers.{freshNumber}
 use Rattle.plan.specs.Demands.{programmed}
-use Rattle.plan.specs.LawsWanted.{known-fits, wanted-fits, writes-only}
+use Rattle.plan.specs.LawsWanted.{known-fits, wanted-fits, wanted-reached, writes-only}
 use Rattle.plan.specs.LawsDemands.{nothing-known}
 use Rattle.plan.specs.LawsAccepted.{AcceptedFresh, accepted-fresh}
 use Rattle.plan.specs.LawsFits.{fits-body}
@@ -204,7 +204,7 @@ module _ (d : Device) (image : List ℕ) (idWord : ℕ) (cells : List ℕ) (e : 
 
   takes : (i : ℕ) → bulkErased (chipOf d) (chipOf d .base) i ≡ true → burning d .Takes i (wanted d image [] i)
   unfolding burning
-  takes i p = fit i
+  takes i p = rw nothing-known at (wanted-reached d image [] (a .image-sound) i (rw nothing-known (omega arith)) (rw nothing-known (erased-contains (wanted d image [] i) (fit i))))
 
   abbrev stream : List Order
   stream = LoadConfiguration erased ∷ BulkErase ∷ ResetAddress ∷ bodyOf (chipOf d) (taskOf (chipOf d) (wanted d image []) (known []) (λ k. false) false false)

@@ -286,6 +286,9 @@ module _ (d : Device) (r : Rules d) where
   pub few-rows : rows ≤ mostWords
   few-rows = let v : rows * 1 ≤ rows * d .row = mul-le-mul-left rows some-row in omega (arith, few-words)
 
+  pub rows-within : rows * d .row ≤ d .words
+  rows-within = let w : rows * d .row ≡ d .words = sound .whole in omega arith
+
   -- what reaches to the last configuration word reaches past the rows
   pub reach-rows : (n : ℕ) → d .words + readingTail ≤ n → rows * d .row ≤ n
   reach-rows n h = let w : rows * d .row ≡ d .words = sound .whole in omega arith

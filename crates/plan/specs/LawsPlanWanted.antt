@@ -1,19 +1,19 @@
 -- The tests by which the code finds a wanted word and chooses what it writes, one by one.
 use Prim.Native.Nat.{ℕ, _+_, _*_, _≤_, _<_}
 use native.Mathlib.Omega.{arith}
-use mathlib.Core.Path.{_≡_, refl, sym, _∙_}
+use mathlib.Core.Path.{_≡_, refl, sym, ap₂, _∙_}
 use mathlib.Core.Bool.{Bool, true, false, _||_, not}
 use mathlib.Core.List.{List, []}
 use lib.Dec.{eqb}
 use lib.ListN.{length, getD, List·getD-eq-default}
 use borrow.Author.Tests.{lt-ltb, le-ltb}
-use Rattle.words.specs.Word.{erased, notGiven}
+use Rattle.words.specs.Word.{erased, notGiven, underMask}
 use Rattle.device.specs.declared.Device.{Device}
-use Rattle.device.specs.Memory.{readingTail, imageOk, readingOk}
+use Rattle.device.specs.Memory.{readingTail, cpWord, imageOk, readingOk, maskAt}
 use Rattle.device.specs.LawsMemory.{image-long, reading-each}
 use Rattle.target.specs.Chip.{Chip}
 use Rattle.plan.specs.Wanted.{known, wanted, differs, some, rowDiffers, idDiffers, configWrites}
-use Rattle.plan.specs.LawsWanted.{same-default, known-inside, known-past, wanted-silent, wanted-given, known-fits, wanted-fits}
+use Rattle.plan.specs.LawsWanted.{same-default, known-inside, known-past, wanted-silent, wanted-given, wanted-whole, known-fits, wanted-fits}
 
 -- ---- the known word, and the wanted one
 
@@ -31,8 +31,14 @@ module _ (d : Device) (image reading : List ℕ) (i given : ℕ) (e : given ≡ 
   pub is-silent : (word : ℕ) → word ≡ known reading i → given ≡ notGiven → word ≡ wanted d image reading i
   is-silent word w s = w ∙ sym (wanted-silent d image reading i (sym e ∙ s))
 
-  pub is-given : (given ≡ notGiven → ⊥) → given ≡ wanted d image reading i
-  is-given s = e ∙ sym (wanted-given d image reading i (λ q. s (e ∙ q)))
+  -- where the word has every bit
+  pub is-given : i < d .words + cpWord → (given ≡ notGiven → ⊥) → given ≡ wanted d image reading i
+  is-given h s = e ∙ sym (wanted-whole d image reading i h (λ q. s (e ∙ q)))
+
+  -- and where it has those of its mask
+  pub is-under : (old word : ℕ) → old ≡ known reading i → word ≡ underMask (maskAt d i) given old → (given ≡ notGiven → ⊥) → word ≡ wanted d image reading i
+  is-under old word o w s =
+      w ∙ (ap₂ (underMask (maskAt d i)) e o ∙ sym (wanted-given d image reading i (λ q. s (e ∙ q))))
 
 -- past an image's end nothing is given
 pub is-past : (d : Device) (image reading : List ℕ) (i word : ℕ) → length image ≤ i → word ≡ known reading i → word ≡ wanted d image reading i

@@ -12,9 +12,11 @@ use borrow.Author.Tests.{lt-ltb, ltb-true, eqb-true}
 use Rattle.words.specs.Word.{Contains}
 use Rattle.words.specs.LawsChoice.{first-holds, second-holds, both, true-not-false}
 use Rattle.words.specs.LawsWord.{words-long, words-each}
+use Rattle.words.specs.LawsMask.{reaches-any}
 use Rattle.device.specs.declared.Device.{Device}
 use Rattle.device.specs.Memory.{readingTail, cellsTail, cpWord, isConfig, protected}
 use Rattle.device.specs.LawsRecord.{Rules, rules}
+use Rattle.device.specs.LawsMask.{mask-plain}
 use Rattle.device.specs.LawsMemory.{reading-long, reading-each, protected-same, config-range}
 use Rattle.target.specs.Chip.{Chip, chipOf}
 use Rattle.target.specs.Effects.{locked}
@@ -35,7 +37,7 @@ use Rattle.plan.specs.Wanted.{known, wanted, idDiffers, configWrites}
 use Rattle.plan.specs.Steps.{Task, taskOf, bodyOf, updateTask, updateSteps}
 use Rattle.plan.specs.Answers.{onlyClears, configOk, updateNumber}
 use Rattle.plan.specs.Demands.{programmed}
-use Rattle.plan.specs.LawsWanted.{known-inside, known-fits, wanted-fits, id-same, writes-only, writes-all}
+use Rattle.plan.specs.LawsWanted.{known-inside, known-fits, wanted-fits, wanted-reached, id-same, writes-only, writes-all}
 use Rattle.plan.specs.LawsAccepted.{Accepted, accepted}
 use Rattle.plan.specs.LawsFits.{fits-body}
 use Rattle.plan.specs.LawsSafe.{SoundTask, Kept, spoken, wiped, spoken-past, spoken-within, wiped-program, wiped-past, sound-cells}
@@ -188,11 +190,11 @@ module _ (d : Device) (image reading cells : List ℕ) (e : updateNumber d image
         fits = (unfold soundCells in words-each (d .words + cellsTail) cells s);
         held = λ i h. held i h ∙ sym (known-is i h);
         bare = bare;
-        able = λ i h. fit i;
+        able = λ i h. rw (mask-plain d i (omega arith)) (reaches-any (wanted d image reading i) (fit i));
         rows-can = λ i h n. absurd (true-not-false {b = true} refl n);
         ids-can = λ n k h. subst (λ w. burning d .Can (d .words + k) (known reading (d .words + k)) w) (sym (id-same (chipOf d) (wanted d image reading) (known reading) n k h))
             (burning d .can-same (d .words + k) (known reading (d .words + k)));
-        config-can = clears;
+        config-can = λ k c. wanted-reached d image reading (a .image-sound) (d .words + k) (known-fits reading (reading-each (d .words) reading (a .reading-sound)) (d .words + k)) (clears k c);
         ids-erased = λ y. (refl, y);
       }
     where

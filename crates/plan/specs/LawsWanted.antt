@@ -9,10 +9,12 @@ use mathlib.Core.List.{List, [], _∷_}
 use lib.Dec.{ltb, eqb}
 use lib.ListN.{length, getD, List·getD-eq-default}
 use borrow.Author.Tests.{eqb-true, eq-eqb, ne-eqb, lt-ltb, ltb-true}
-use Rattle.words.specs.Word.{erased, notGiven}
+use Rattle.words.specs.Word.{erased, notGiven, Contains, underMask}
+use Rattle.words.specs.LawsMask.{under-lt, Reaches, reaches-same, reaches-cleared}
 use Rattle.words.specs.LawsChoice.{pick-true, pick-false, both, first-holds, true-not-false}
 use Rattle.device.specs.declared.Device.{Device}
-use Rattle.device.specs.Memory.{readingTail, imageOk}
+use Rattle.device.specs.Memory.{readingTail, cpWord, imageOk, maskAt}
+use Rattle.device.specs.LawsMask.{under-plain}
 use Rattle.device.specs.LawsMemory.{image-long, image-each, entry-word}
 use Rattle.target.specs.Chip.{Chip}
 use Rattle.words.specs.LawsTests.{by-lt, by-eq, fails, not-fails, or-cases, or-left, or-right}
@@ -43,9 +45,13 @@ module _ (d : Device) (image reading : List ℕ) (i : ℕ) where
   unfolding wanted
   wanted-silent e = pick-true (eqb (getD image i notGiven) notGiven) _ _ (eq-eqb _ notGiven e)
 
-  pub wanted-given : (getD image i notGiven ≡ notGiven → ⊥) → wanted d image reading i ≡ getD image i notGiven
+  pub wanted-given : (getD image i notGiven ≡ notGiven → ⊥) → wanted d image reading i ≡ underMask (maskAt d i) (getD image i notGiven) (known reading i)
   unfolding wanted
   wanted-given e = pick-false (eqb (getD image i notGiven) notGiven) _ _ (ne-eqb _ notGiven e)
+
+  -- program words and user IDs have every bit
+  pub wanted-whole : i < d .words + cpWord → (getD image i notGiven ≡ notGiven → ⊥) → wanted d image reading i ≡ getD image i notGiven
+  wanted-whole h e = wanted-given e ∙ under-plain d i h (getD image i notGiven) (known reading i)
 
 -- ---- every wanted word has 14 bits
 
@@ -65,7 +71,18 @@ module _ (d : Device) (image reading : List ℕ) (sound : imageOk (d .words) ima
 
   pub wanted-fits : ((i : ℕ) → known reading i < 0x4000) → (i : ℕ) → wanted d image reading i < 0x4000
   wanted-fits small i =
-      by-eq (getD image i notGiven) notGiven (λ e. rw (wanted-silent d image reading i e) (small i)) (λ n. rw (wanted-given d image reading i n) (given-fits i n))
+      by-eq (getD image i notGiven) notGiven (λ e. rw (wanted-silent d image reading i e) (small i))
+      (λ n. rw (wanted-given d image reading i n) (under-lt (maskAt d i) (getD image i notGiven) (known reading i) (given-fits i n) (small i)))
+
+  -- ---- a wanted word that has no bit more than the known one can be written over it
+
+  pub wanted-reached : (i : ℕ) → known reading i < 0x4000 → Contains (known reading i) (wanted d image reading i) → Reaches (maskAt d i) (known reading i) (wanted d image reading i)
+  wanted-reached i small c =
+      by-eq (getD image i notGiven) notGiven
+      (λ e. rw (wanted-silent d image reading i e) (reaches-same (maskAt d i) (known reading i)))
+      (λ n.
+      rw (wanted-given d image reading i n)
+      (reaches-cleared (maskAt d i) (getD image i notGiven) (known reading i) (given-fits i n) small (rw (wanted-given d image reading i n) at c)))
 
 -- ---- where nothing differs, the wanted word is the old one
 

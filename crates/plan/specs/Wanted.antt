@@ -6,17 +6,19 @@ use mathlib.Core.List.{List}
 use lib.Dec.{ltb, eqb}
 use lib.ListN.{getD}
 use Rattle.words.specs.Choice.{pick}
-use Rattle.words.specs.Word.{erased, notGiven}
+use Rattle.words.specs.Word.{erased, notGiven, underMask}
 use Rattle.device.specs.declared.Device.{Device}
+use Rattle.device.specs.Memory.{maskAt}
 use Rattle.target.specs.Chip.{Chip}
 
 -- the reading's word (update), or 3FFFh (fresh)
 unfoldable pub known : (reading : List ℕ) → ℕ → ℕ
 known reading i = getD reading i erased
 
--- the image's word where given; elsewhere the known one
+-- the image's word where given, in the bits that the word has; elsewhere the known one
 unfoldable pub wanted : Device → (image reading : List ℕ) → ℕ → ℕ
-wanted d image reading i = pick (eqb (getD image i notGiven) notGiven) (known reading i) (getD image i notGiven)
+wanted d image reading i =
+    pick (eqb (getD image i notGiven) notGiven) (known reading i) (underMask (maskAt d i) (getD image i notGiven) (known reading i))
 
 -- ---- where wanted words are other than known ones, on any chip
 

@@ -2,6 +2,7 @@
 use crate::orders::put_erase;
 use crate::orders::put_order;
 use crate::orders::put_walk;
+use crate::source::config_differs;
 use crate::source::wanted_word;
 use crate::source::word_differs;
 use device::Device;
@@ -32,7 +33,7 @@ pub(crate) fn is_written(d: Device, image: &[u16], reading: &[u16], k: usize, al
         return false;
     }
     if k < 9 {
-        return word_differs(d, image, reading, (d.words as usize) + k);
+        return config_differs(d, image, reading, (d.words as usize) + k);
     }
     false
 }

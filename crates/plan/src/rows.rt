@@ -3,13 +3,13 @@ use crate::orders::put_erase;
 use crate::orders::put_order;
 use crate::orders::put_walk;
 use crate::source::some_differ;
-use crate::source::wanted_word;
+use crate::source::plain_word;
 use device::Device;
 use target::Order;
 ghost use mathlib.Core.List.{[], _∷_};
 ghost use Prim.Native.Nat.{_+_, _/_, _≤_, _<_};
 ghost use lib.ListN.{length};
-ghost use Rattle.device.specs.Memory.{readingTail};
+ghost use Rattle.device.specs.Memory.{readingTail, cpWord};
 ghost use Rattle.device.specs.LawsRecord.{Rules};
 ghost use Rattle.target.specs.Chip.{chipOf};
 ghost use Rattle.target.specs.declared.Order.the-variants.{LoadData};
@@ -28,14 +28,14 @@ fn put_load(
     i: usize,
 ) -> usize
     requires { ⌜ Source d (now image) (now reading) ⌝ }
-    requires { ⌜ i < length (now image) ⌝ }
+    requires { ⌜ (i < length (now image)) × (i < d .words + cpWord) ⌝ }
     requires { ⌜ Room (LoadData (wanted d (now image) (now reading) i) ∷ []) steps (now out) ⌝ }
     ensures { λ r. ⌜ Wrote (LoadData (wanted d (now (image .entry)) (now (reading .entry)) i) ∷ []) steps (now (out .entry)) r (now (out .exit)) ⌝ }
 {
     put_order(
         out,
         steps,
-        Order::LoadData(wanted_word(d, image, reading, i)),
+        Order::LoadData(plain_word(d, image, reading, i)),
     )
 }
 
@@ -50,7 +50,7 @@ fn put_loads(
     count: usize,
 ) -> usize
     requires { ⌜ Source d (now image) (now reading) ⌝ }
-    requires { ⌜ (0 < count) × (first + count ≤ ample) × (first + count ≤ length (now image)) ⌝ }
+    requires { ⌜ (0 < count) × (first + count ≤ ample) × (first + count ≤ length (now image)) × (first + count ≤ d .words) ⌝ }
     requires { ⌜ Room (loads (wanted d (now image) (now reading)) first count) steps (now out) ⌝ }
     ensures { λ r. ⌜ Wrote (loads (wanted d (now (image .entry)) (now (reading .entry))) first count) steps (now (out .entry)) r (now (out .exit)) ⌝ }
 {
@@ -78,7 +78,7 @@ fn put_row(
     erase: bool,
 ) -> usize
     requires { ⌜ Source d (now image) (now reading) ⌝ }
-    requires { ⌜ (0 < d .row) × (first + d .row ≤ ample) × (first + d .row ≤ length (now image)) ⌝ }
+    requires { ⌜ (0 < d .row) × (first + d .row ≤ ample) × (first + d .row ≤ length (now image)) × (first + d .row ≤ d .words) ⌝ }
     requires { ⌜ Room (rowSteps (chipOf d) erase (wanted d (now image) (now reading)) at first) steps (now out) ⌝ }
     ensures { λ r. ⌜ Wrote (rowSteps (chipOf d) erase (wanted d (now (image .entry)) (now (reading .entry))) at first) steps (now (out .entry)) r (now (out .exit)) ⌝ }
 {

@@ -6,7 +6,7 @@ ghost use mathlib.Core.Path.{_≡_};
 ghost use Prim.Native.Nat.{_+_, _≤_, _<_};
 ghost use lib.ListN.{length, getD};
 ghost use Rattle.words.specs.Word.{notGiven};
-ghost use Rattle.device.specs.Memory.{readingTail};
+ghost use Rattle.device.specs.Memory.{readingTail, cpWord};
 ghost use Rattle.target.specs.Chip.{chipOf};
 ghost use Rattle.plan.specs.Wanted.{known, wanted, differs, some, idDiffers};
 ghost use Rattle.plan.specs.LawsPlanWrote.{ample};
@@ -29,9 +29,9 @@ fn given_word(image: &[u16], i: usize) -> u16
     image[i]
 }
 
-// The image's word where it gives one, the known word where it is silent.
-pub(crate) fn wanted_word(d: Device, image: &[u16], reading: &[u16], i: usize) -> u16
-    requires { ⌜ i < length (now image) ⌝ }
+// The image's word where it gives one, the known word where it is silent: of a program word or a user ID, which have every bit.
+pub(crate) fn plain_word(d: Device, image: &[u16], reading: &[u16], i: usize) -> u16
+    requires { ⌜ (i < length (now image)) × (i < d .words + cpWord) ⌝ }
     ensures { λ r. ⌜ r ≡ wanted d (now (image .entry)) (now (reading .entry)) i ⌝ }
 {
     let given = given_word(image, i);
@@ -39,6 +39,19 @@ pub(crate) fn wanted_word(d: Device, image: &[u16], reading: &[u16], i: usize) -
         return known_word(reading, i);
     }
     given
+}
+
+// The same of any word: what the image gives is taken in the bits that the word has.
+pub(crate) fn wanted_word(d: Device, image: &[u16], reading: &[u16], i: usize) -> u16
+    requires { ⌜ i < length (now image) ⌝ }
+    ensures { λ r. ⌜ r ≡ wanted d (now (image .entry)) (now (reading .entry)) i ⌝ }
+{
+    let given = given_word(image, i);
+    let old = known_word(reading, i);
+    if given == NOT_GIVEN {
+        return old;
+    }
+    device::under_mask(d, i, given, old)
 }
 
 // The word that an entry is to hold; past the image's end nothing is given.
@@ -51,15 +64,23 @@ pub fn wanted(d: Device, image: &[u16], reading: &[u16], i: usize) -> u16
     known_word(reading, i)
 }
 
-// Whether a wanted word is not the one that stands there.
+// Whether a program word or a user ID is wanted other than it stands there.
 pub(crate) fn word_differs(d: Device, image: &[u16], reading: &[u16], i: usize) -> bool
+    requires { ⌜ (i < length (now image)) × (i < d .words + cpWord) ⌝ }
+    ensures { λ r. ⌜ r ≡ differs (wanted d (now (image .entry)) (now (reading .entry))) (known (now (reading .entry))) i ⌝ }
+{
+    plain_word(d, image, reading, i) != known_word(reading, i)
+}
+
+// The same of a configuration word.
+pub(crate) fn config_differs(d: Device, image: &[u16], reading: &[u16], i: usize) -> bool
     requires { ⌜ i < length (now image) ⌝ }
     ensures { λ r. ⌜ r ≡ differs (wanted d (now (image .entry)) (now (reading .entry))) (known (now (reading .entry))) i ⌝ }
 {
     wanted_word(d, image, reading, i) != known_word(reading, i)
 }
 
-// Whether one of the words from a first one on differs.
+// Whether one of the program words or user IDs from a first one on differs.
 pub(crate) fn some_differ(
     d: Device,
     image: &[u16],
@@ -67,7 +88,7 @@ pub(crate) fn some_differ(
     first: usize,
     count: usize,
 ) -> bool
-    requires { ⌜ (first + count ≤ ample) × (first + count ≤ length (now image)) ⌝ }
+    requires { ⌜ (first + count ≤ ample) × (first + count ≤ length (now image)) × (first + count ≤ d .words + cpWord) ⌝ }
     ensures { λ r. ⌜ r ≡ some count (λ j. differs (wanted d (now (image .entry)) (now (reading .entry))) (known (now (reading .entry))) (first + j)) ⌝ }
 {
     let mut j = 0;

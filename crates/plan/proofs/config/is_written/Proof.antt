@@ -26,18 +26,18 @@ returns-2 c = id-written (chipOf (c .before .before .before .before .before .bef
 returns-3 : tie.Need-returns-3
 returns-3 c = never-written (chipOf (c .before .before .before .before .args .d)) _ _ _ _ (c .before .if1 .left) (config-below _ (c .if3 .taken))
 
-cast-word-differs-2 : tie.Need-cast-word-differs-2
-cast-word-differs-2 c = search needs
+cast-config-differs : tie.Need-cast-config-differs
+cast-config-differs c = search needs
 
-add-word-differs-2 : tie.Need-add-word-differs-2
-add-word-differs-2 c = search needs
+add-config-differs : tie.Need-add-config-differs
+add-config-differs c = search needs
 
-word-differs-requires-2 : tie.Need-word-differs-requires-2
-word-differs-requires-2 c κs = search needs
+config-differs-requires : tie.Need-config-differs-requires
+config-differs-requires c κs = search needs
 
 returns-4 : tie.Need-returns-4
 returns-4 c = config-written (chipOf (c .before .before .before .before .before .before .before .args .d)) _ _ _ _ _ (omega arith)
-    (config-inside _ (c .before .before .before .if3 .left) (c .before .before .if4 .taken)) (c .word-differs2 .ensures)
+    (config-inside _ (c .before .before .before .if3 .left) (c .before .before .if4 .taken)) (c .config-differs .ensures)
 
 returns-5 : tie.Need-returns-5
 returns-5 c = never-written (chipOf (c .before .before .before .before .before .args .d)) _ _ _ _ (omega arith) (config-past _ (c .if4 .left))
@@ -52,8 +52,8 @@ is-written-spec =
     word-differs-requires
     returns-2
     returns-3
-    cast-word-differs-2
-    add-word-differs-2
-    word-differs-requires-2
+    cast-config-differs
+    add-config-differs
+    config-differs-requires
     returns-4
     returns-5)

@@ -8,7 +8,7 @@ use Rattle.plan.specs.Wanted.{known, wanted, rowDiffers}
 use Rattle.plan.specs.Steps.{rowsFrom}
 use Rattle.plan.specs.LawsPlanSteps.{rows-all, rows-no, rows-none, row-after, row-before, row-inside}
 use Rattle.plan.specs.LawsPlanWanted.{row-differs}
-use Rattle.plan.specs.LawsPlanBounds.{some-row, few-rows, few-words, reach-rows, rows-few}
+use Rattle.plan.specs.LawsPlanBounds.{some-row, few-rows, few-words, reach-rows, rows-within, rows-few}
 use Rattle.plan.specs.LawsPlanCount.{Counting, rowsMost, counting-all, counting-same, counting-none, row-counted}
 use borrow.Author.Needs.{needs}
 use Rattle.plan.proofs.count.rows_length.Statement.{statement}
@@ -47,7 +47,8 @@ some-differ-requires : tie.Need-some-differ-requires Inv-loop μ-loop
 some-differ-requires c κs = let m = row-inside _ _ _ _ (c .loop-test .taken) (few-words _ (c .before .before .before .before .before .before .before .pre .0)) in
     let n = row-inside _ _ _ _ (c .loop-test .taken) (reach-rows _ (c .before .before .before .before .before .before .before .pre .0) _
     (c .before .before .before .before .before .before .before .pre .1)) in
-    (omega arith, omega arith)
+    let w = row-inside _ _ _ _ (c .loop-test .taken) (rows-within _ (c .before .before .before .before .before .before .before .pre .0)) in
+    (omega arith, omega arith, omega arith)
 
 sub-steps : tie.Need-sub-steps Inv-loop μ-loop
 sub-steps c = omega arith

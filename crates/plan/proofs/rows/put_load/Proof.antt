@@ -7,21 +7,21 @@ use borrow.Author.Needs.{needs}
 use Rattle.plan.proofs.rows.put_load.Statement.{statement}
 use Rattle.plan.proofs.rows.put_load.Tie as tie
 
-wanted-word-requires : tie.Need-wanted-word-requires
-wanted-word-requires c κs = c .before .before .before .before .pre .1 .0
+plain-word-requires : tie.Need-plain-word-requires
+plain-word-requires c κs = c .before .before .before .before .pre .1 .0
 
 put-order-requires : tie.Need-put-order-requires
 put-order-requires c κs = (
-  rw (c .wanted-word .ensures) (c .before .before .before .before .before .pre .0 .fits _),
+  rw (c .plain-word .ensures) (c .before .before .before .before .before .pre .0 .fits _),
   room-same _ _ _ _
-      (ap (λ w. LoadData w ∷ []) (sym (c .wanted-word .ensures))) (c .before .before .before .before .before .pre .1 .1),
+      (ap (λ w. LoadData w ∷ []) (sym (c .plain-word .ensures))) (c .before .before .before .before .before .pre .1 .1),
 )
 
 same-length : tie.Need-same-length
 same-length c = search needs
 
 returns : tie.Need-returns
-returns c = wrote-same _ _ _ _ _ _ (ap (λ w. LoadData w ∷ []) (c .before .before .before .wanted-word .ensures)) (c .before .before .put-order .ensures)
+returns c = wrote-same _ _ _ _ _ _ (ap (λ w. LoadData w ∷ []) (c .before .before .before .plain-word .ensures)) (c .before .before .put-order .ensures)
 
 pub put-load-spec : {M : Type 1} → statement M
-put-load-spec = tie.close (tie.spec wanted-word-requires put-order-requires same-length returns)
+put-load-spec = tie.close (tie.spec plain-word-requires put-order-requires same-length returns)

@@ -8,7 +8,7 @@ use Rattle.plan.specs.Wanted.{known, wanted, rowDiffers}
 use Rattle.plan.specs.Steps.{rowsFrom}
 use Rattle.plan.specs.LawsPlanSteps.{rows-all, rows-yes, rows-no, rows-none, row-before, row-inside}
 use Rattle.plan.specs.LawsPlanWanted.{row-differs}
-use Rattle.plan.specs.LawsPlanBounds.{some-row, few-rows, few-words, reach-rows}
+use Rattle.plan.specs.LawsPlanBounds.{some-row, few-rows, few-words, reach-rows, rows-within}
 use Rattle.plan.specs.LawsPlanWrote.{Left, left-all, left-same, left-then, left-none, room-part}
 use borrow.Author.Needs.{needs}
 use Rattle.plan.proofs.rows.put_rows.Statement.{statement}
@@ -44,17 +44,20 @@ some-differ-requires : tie.Need-some-differ-requires Inv-loop μ-loop
 some-differ-requires c κs = let m = row-inside _ _ _ _ (c .loop-test .taken) (few-words _ (c .before .before .before .before .before .before .before .pre .0)) in
     let n = row-inside _ _ _ _ (c .loop-test .taken) (reach-rows _ (c .before .before .before .before .before .before .before .pre .0) _
     (c .before .before .before .before .before .before .before .pre .1 .1 .0)) in
-    (omega arith, omega arith)
+    let w = row-inside _ _ _ _ (c .loop-test .taken) (rows-within _ (c .before .before .before .before .before .before .before .pre .0)) in
+    (omega arith, omega arith, omega arith)
 
 put-row-requires : tie.Need-put-row-requires Inv-loop μ-loop
 put-row-requires c κs = let m = row-inside _ _ _ _ (c .before .before .before .loop-test .taken)
     (few-words _ (c .before .before .before .before .before .before .before .before .before .before .pre .0)) in
     let n = row-inside _ _ _ _ (c .before .before .before .loop-test .taken)
     (reach-rows _ (c .before .before .before .before .before .before .before .before .before .before .pre .0) _
-    (c .before .before .before .before .before .before .before .before .before .before .pre .1 .1 .0)) in (
+    (c .before .before .before .before .before .before .before .before .before .before .pre .1 .1 .0)) in
+    let w = row-inside _ _ _ _ (c .before .before .before .loop-test .taken)
+    (rows-within _ (c .before .before .before .before .before .before .before .before .before .before .pre .0)) in (
       c .before .before .before .before .before .before .before .before .before .before .pre .1 .0,
       (
-        (some-row _ (c .before .before .before .before .before .before .before .before .before .before .pre .0), omega arith, omega arith),
+        (some-row _ (c .before .before .before .before .before .before .before .before .before .before .pre .0), omega arith, omega arith, omega arith),
         room-part _ _ _ _ _ _ _
             (left-same _ _ _ _ _ _ _ (rows-yes _ _ _ _ _ _ _ (c .before .before .before .loop-test .taken)
             (sym (row-differs (chipOf (c .before .before .before .before .before .before .before .before .before .before .args .d)) _ _ _) ∙

@@ -4,8 +4,8 @@ use borrow.Author.Needs.{needs}
 use Rattle.plan.proofs.source.word_differs.Statement.{statement}
 use Rattle.plan.proofs.source.word_differs.Tie as tie
 
-wanted-word-requires : tie.Need-wanted-word-requires
-wanted-word-requires c κs = search needs
+plain-word-requires : tie.Need-plain-word-requires
+plain-word-requires c κs = search needs
 
 known-word-requires : tie.Need-known-word-requires
 known-word-requires c κs = search needs
@@ -14,4 +14,4 @@ returns : tie.Need-returns
 returns c = search (differs-is, needs)
 
 pub word-differs-spec : {M : Type 1} → statement M
-word-differs-spec = tie.close (tie.spec wanted-word-requires known-word-requires returns)
+word-differs-spec = tie.close (tie.spec plain-word-requires known-word-requires returns)
