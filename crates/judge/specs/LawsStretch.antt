@@ -8,6 +8,7 @@ use lib.Bits.{bitOr}
 use lib.ListN.{length, getD}
 use Rattle.words.specs.LawsTests.{by-lt, by-eq}
 use Rattle.words.specs.LawsJoined.{or-none}
+use Rattle.device.specs.declared.Device.{Device}
 use Rattle.judge.specs.LawsCount.{Found, noted-same, found-more, found-end}
 use Rattle.judge.specs.LawsVerify.{differs-equal}
 use Rattle.judge.specs.Verify.{entryDiffers}
@@ -66,10 +67,10 @@ found-over f count place from (suc n) r h =
     (found-more (from + n) f count place (found-over f count place from n r (λ k p q. h k p (omega arith))) false
     (sym (h (from + n) (omega arith) (omega arith))) count place (noted-same count place (from + n) false refl)) (omega arith)
 
-pub found-same : (words : ℕ) (wanted reading : List ℕ) (count place from i : ℕ) → Found from (entryDiffers words wanted reading) count place → Same wanted reading from i
-    → Found i (entryDiffers words wanted reading) count place
-found-same words wanted reading count place from i r s =
+pub found-same : (d : Device) (wanted reading : List ℕ) (count place from i : ℕ) → Found from (entryDiffers d wanted reading) count place → Same wanted reading from i
+    → Found i (entryDiffers d wanted reading) count place
+found-same d wanted reading count place from i r s =
     let l : from ≤ i = s .onward in
     found-end (from + (i - from)) i _ count place
-    (found-over (entryDiffers words wanted reading) count place from (i - from) r
-    (λ k p q. differs-equal words wanted reading k (s .each k p (omega arith)))) (omega arith)
+    (found-over (entryDiffers d wanted reading) count place from (i - from) r
+    (λ k p q. differs-equal d wanted reading k (s .each k p (omega arith)))) (omega arith)

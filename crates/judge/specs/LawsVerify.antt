@@ -7,10 +7,14 @@ use mathlib.Core.Path.{_≡_, refl, sym, ap, _∙_}
 use mathlib.Core.Bool.{Bool, true, false, _&&_, not}
 use mathlib.Core.List.{List}
 use lib.Dec.{eqb}
+use lib.Bits.{bitAnd}
 use lib.ListN.{getD}
 use borrow.Author.Tests.{lt-ltb, le-ltb, eqb-true, eq-eqb, ne-eqb, not-false}
 use Rattle.words.specs.Choice.{pick}
-use Rattle.words.specs.LawsChoice.{second-fails}
+use Rattle.words.specs.Word.{underMask}
+use Rattle.words.specs.LawsChoice.{second-fails, true-not-false}
+use Rattle.words.specs.LawsTests.{by-test}
+use Rattle.words.specs.LawsMask.{under-same, under-equal, equal-under}
 use Rattle.words.specs.Address.{configBase, addressOf, placeOf}
 use Rattle.words.specs.LawsAddress.{place-of, address-program, address-config}
 use Rattle.words.specs.declared.WordAddress.{WordAddress}
@@ -18,12 +22,13 @@ use Rattle.words.specs.declared.Place.{Place}
 use Rattle.words.specs.declared.Place.the-variants.{At, Nowhere}
 use Rattle.device.specs.declared.Device.{Device}
 use Rattle.device.specs.Record.{mostWords, deviceOk}
-use Rattle.device.specs.Memory.{readingTail, ids, cpWord, programmable, readingOk, protected}
+use Rattle.device.specs.Memory.{readingTail, ids, cpWord, programmable, maskAt, readingOk, protected}
+use Rattle.device.specs.LawsMask.{under-plain}
 use Rattle.device.specs.LawsMemory.{programmable-low, programmable-never, programmable-config}
 use Rattle.judge.specs.declared.Verdict.{Verdict}
 use Rattle.judge.specs.Count.{countTo, firstTo}
 use Rattle.judge.specs.LawsCount.{Found}
-use Rattle.judge.specs.Verify.{judged, entryDiffers, bare, verdictOf, verified}
+use Rattle.judge.specs.Verify.{judged, differs, entryDiffers, bare, verdictOf, verified}
 
 -- ---- which entries are judged
 
@@ -58,64 +63,85 @@ module _ (words : ℕ) (hidden : Bool) (i : ℕ) where
 
 -- ---- which entries differ
 
-module _ (words : ℕ) (wanted reading : List ℕ) (i : ℕ) where
-  -- an entry differs if it is judged and the words are not the same
-  pub differs-there : judged words (protected words reading) i ≡ true → entryDiffers words wanted reading i ≡ false → getD wanted i 0 ≡ getD reading i 0
-  unfolding entryDiffers
-  differs-there j e = eqb-true (getD wanted i 0) (getD reading i 0) (not-false (eqb (getD wanted i 0) (getD reading i 0)) (rw j at e))
+module _ (mask wanted reading : ℕ) where
+  -- a word does not differ if it takes the wanted bits under the mask and stays as it is
+  pub same-of : differs mask wanted reading ≡ false → underMask mask wanted reading ≡ reading
+  unfolding differs
+  same-of e = eqb-true (underMask mask wanted reading) reading (not-false (eqb (underMask mask wanted reading) reading) e)
 
-  pub differs-equal : getD wanted i 0 ≡ getD reading i 0 → entryDiffers words wanted reading i ≡ false
-  unfolding entryDiffers
-  differs-equal e =
-      second-fails (judged words (protected words reading) i) (not (eqb (getD wanted i 0) (getD reading i 0)))
-      (rw (eq-eqb (getD wanted i 0) (getD reading i 0) e))
+  pub same-is : underMask mask wanted reading ≡ reading → differs mask wanted reading ≡ false
+  unfolding differs
+  same-is e = rw (eq-eqb (underMask mask wanted reading) reading e)
 
-  pub differs-not-judged : judged words (protected words reading) i ≡ false → entryDiffers words wanted reading i ≡ false
+-- only the bits under the mask have a say
+pub differs-same : (mask a b c d : ℕ) → a < 0x4000 → b < 0x4000 → c < 0x4000 → d < 0x4000 → bitAnd a mask ≡ bitAnd b mask → bitAnd c mask ≡ bitAnd d mask → differs mask a c ≡ differs mask b d
+differs-same mask a b c d pa pb pc pd e f =
+    by-test (differs mask b d)
+    (λ t. by-test (differs mask a c) (λ s. s ∙ sym t) (λ s. absurd (true-not-false t (same-is mask b d (equal-under mask b d pb pd (sym e ∙ (under-equal mask a c (same-of mask a c s) ∙ f)))))))
+    (λ t. same-is mask a c (equal-under mask a c pa pc (e ∙ (under-equal mask b d (same-of mask b d t) ∙ sym f))) ∙ sym t)
+
+module _ (d : Device) (wanted reading : List ℕ) (i : ℕ) where
+  -- a judged entry that does not differ
+  pub differs-there : judged (d .words) (protected (d .words) reading) i ≡ true → entryDiffers d wanted reading i ≡ false
+      → underMask (maskAt d i) (getD wanted i 0) (getD reading i 0) ≡ getD reading i 0
+  unfolding entryDiffers
+  differs-there j e = same-of (maskAt d i) (getD wanted i 0) (getD reading i 0) (rw j at e)
+
+  pub differs-under : underMask (maskAt d i) (getD wanted i 0) (getD reading i 0) ≡ getD reading i 0 → entryDiffers d wanted reading i ≡ false
+  unfolding entryDiffers
+  differs-under e =
+      second-fails (judged (d .words) (protected (d .words) reading) i) (differs (maskAt d i) (getD wanted i 0) (getD reading i 0))
+      (same-is (maskAt d i) (getD wanted i 0) (getD reading i 0) e)
+
+  pub differs-equal : getD wanted i 0 ≡ getD reading i 0 → entryDiffers d wanted reading i ≡ false
+  differs-equal e = differs-under (ap (λ w. underMask (maskAt d i) w (getD reading i 0)) e ∙ under-same (maskAt d i) (getD reading i 0))
+
+  pub differs-not-judged : judged (d .words) (protected (d .words) reading) i ≡ false → entryDiffers d wanted reading i ≡ false
   unfolding entryDiffers
   differs-not-judged j = rw j
 
   -- the entry as the code looks at it
-  pub differs-of : (hidden other : Bool) → hidden ≡ protected words reading → other ≡ (judged words hidden i && not (eqb (getD wanted i 0) (getD reading i 0)))
-      → other ≡ entryDiffers words wanted reading i
+  pub differs-of : (hidden other : Bool) → hidden ≡ protected (d .words) reading → other ≡ (judged (d .words) hidden i && differs (maskAt d i) (getD wanted i 0) (getD reading i 0))
+      → other ≡ entryDiffers d wanted reading i
   unfolding entryDiffers
   differs-of hidden other p q = rw (← p) q
 
 -- ---- the verdict
 
-module _ (words : ℕ) (wanted reading : List ℕ) where
-  pub verdict-0 : countTo (words + readingTail) (entryDiffers words wanted reading) ≡ 0 → protected words reading ≡ false → verdictOf words wanted reading ≡ bare 0
+module _ (d : Device) (wanted reading : List ℕ) where
+  pub verdict-0 : countTo (d .words + readingTail) (entryDiffers d wanted reading) ≡ 0 → protected (d .words) reading ≡ false → verdictOf d wanted reading ≡ bare 0
   unfolding verdictOf pick
-  verdict-0 z f = rw (le-ltb 0 (countTo (words + readingTail) (entryDiffers words wanted reading)) (omega arith), f)
+  verdict-0 z f = rw (le-ltb 0 (countTo (d .words + readingTail) (entryDiffers d wanted reading)) (omega arith), f)
 
-  pub verdict-41 : countTo (words + readingTail) (entryDiffers words wanted reading) ≡ 0 → protected words reading ≡ true → verdictOf words wanted reading ≡ bare 41
+  pub verdict-41 : countTo (d .words + readingTail) (entryDiffers d wanted reading) ≡ 0 → protected (d .words) reading ≡ true → verdictOf d wanted reading ≡ bare 41
   unfolding verdictOf pick
-  verdict-41 z f = rw (le-ltb 0 (countTo (words + readingTail) (entryDiffers words wanted reading)) (omega arith), f)
+  verdict-41 z f = rw (le-ltb 0 (countTo (d .words + readingTail) (entryDiffers d wanted reading)) (omega arith), f)
 
-  pub verdict-40 : 0 < countTo (words + readingTail) (entryDiffers words wanted reading)
-      → verdictOf words wanted reading ≡ record {
+  pub verdict-40 : 0 < countTo (d .words + readingTail) (entryDiffers d wanted reading)
+      → verdictOf d wanted reading ≡ record {
         number = 40;
         address = record {
-          0 = addressOf configBase words (firstTo (words + readingTail) (entryDiffers words wanted reading));
+          0 = addressOf configBase (d .words) (firstTo (d .words + readingTail) (entryDiffers d wanted reading));
         };
-        count = countTo (words + readingTail) (entryDiffers words wanted reading);
+        count = countTo (d .words + readingTail) (entryDiffers d wanted reading);
       }
   unfolding verdictOf pick
-  verdict-40 h = rw (lt-ltb 0 (countTo (words + readingTail) (entryDiffers words wanted reading)) h)
+  verdict-40 h = rw (lt-ltb 0 (countTo (d .words + readingTail) (entryDiffers d wanted reading)) h)
 
 -- the same from what the code has found
-module _ (words : ℕ) (wanted reading : List ℕ) (count place : ℕ) (r : Found (words + readingTail) (entryDiffers words wanted reading) count place) where
-  pub found-0 : count ≡ 0 → protected words reading ≡ false → bare 0 ≡ verdictOf words wanted reading
-  found-0 z f = sym (verdict-0 words wanted reading (sym (r .counted) ∙ z) f)
+module _ (d : Device) (wanted reading : List ℕ) (count place : ℕ) (r : Found (d .words + readingTail) (entryDiffers d wanted reading) count place) where
+  pub found-0 : count ≡ 0 → protected (d .words) reading ≡ false → bare 0 ≡ verdictOf d wanted reading
+  found-0 z f = sym (verdict-0 d wanted reading (sym (r .counted) ∙ z) f)
 
-  pub found-41 : count ≡ 0 → protected words reading ≡ true → bare 41 ≡ verdictOf words wanted reading
-  found-41 z f = sym (verdict-41 words wanted reading (sym (r .counted) ∙ z) f)
+  pub found-41 : count ≡ 0 → protected (d .words) reading ≡ true → bare 41 ≡ verdictOf d wanted reading
+  found-41 z f = sym (verdict-41 d wanted reading (sym (r .counted) ∙ z) f)
 
-  pub found-40 : (count ≡ 0 → ⊥) → (a : WordAddress) → a ≡ record { 0 = addressOf configBase words place }
-      → _≡_ {A = Verdict} (record { number = 40; address = a; count = count }) (verdictOf words wanted reading)
+  pub found-40 : (count ≡ 0 → ⊥) → (a : WordAddress) → a ≡ record { 0 = addressOf configBase (d .words) place }
+      → _≡_ {A = Verdict} (record { number = 40; address = a; count = count }) (verdictOf d wanted reading)
   found-40 n a e =
       let some : 0 < count = pos-of-ne-zero n in
-      let there : place ≡ firstTo (words + readingTail) (entryDiffers words wanted reading) = r .placed some in
-      rw (e, there, r .counted) (sym (verdict-40 words wanted reading (rw (r .counted) at some)))
+      let there : place ≡ firstTo (d .words + readingTail) (entryDiffers d wanted reading) = r .placed some in
+      rw (e, there, r .counted) (sym (verdict-40 d wanted reading (rw (r .counted) at some)))
 
 -- ---- the answer
 
@@ -132,7 +158,7 @@ module _ (d : Device) (wanted reading : List ℕ) where
   unfolding verified pick
   verified-21-reading e f g = rw (e, f, g)
 
-  pub verified-judged : deviceOk d ≡ true → readingOk (d .words) wanted ≡ true → readingOk (d .words) reading ≡ true → verified d wanted reading ≡ verdictOf (d .words) wanted reading
+  pub verified-judged : deviceOk d ≡ true → readingOk (d .words) wanted ≡ true → readingOk (d .words) reading ≡ true → verified d wanted reading ≡ verdictOf d wanted reading
   unfolding verified pick
   verified-judged e f g = rw (e, f, g)
 
@@ -156,18 +182,31 @@ address-ascends words i j low h = by (decLt i words) (decLt j words)
     by (yes p) (no q) = rw (address-program configBase words i p, address-config configBase words j (omega arith)) (omega arith)
     by (no p) q = rw (address-config configBase words i (omega arith), address-config configBase words j (omega arith)) (omega arith)
 
--- ---- the code's two tests of an entry: whether its words are the same comes first
+-- ---- the code's tests of an entry: whether its words differ in a bit that it has comes first
 
-module _ (words : ℕ) (hidden : Bool) (i wanted reading : ℕ) where
-  pub differ-judged : (r : Bool) → (wanted ≡ reading → ⊥) → r ≡ judged words hidden i → r ≡ (judged words hidden i && not (eqb wanted reading))
-  differ-judged r n e = rw (ne-eqb wanted reading n, e) (both (judged words hidden i))
+module _ (d : Device) (i wanted reading : ℕ) where
+  pub words-same : wanted ≡ reading → false ≡ differs (maskAt d i) wanted reading
+  words-same e = sym (same-is (maskAt d i) wanted reading (ap (λ w. underMask (maskAt d i) w reading) e ∙ under-same (maskAt d i) reading))
+
+  -- program words and user IDs have every bit
+  pub words-other : (wanted ≡ reading → ⊥) → i < d .words + cpWord → true ≡ differs (maskAt d i) wanted reading
+  unfolding differs
+  words-other n h = rw (under-plain d i h wanted reading, ne-eqb wanted reading n)
+
+  pub words-under : (word : ℕ) → word ≡ underMask (maskAt d i) wanted reading → not (eqb word reading) ≡ differs (maskAt d i) wanted reading
+  unfolding differs
+  words-under word e = rw e
+
+module _ (words : ℕ) (hidden : Bool) (i : ℕ) (other : Bool) where
+  pub differ-judged : (r s : Bool) → r ≡ other → r ≡ true → s ≡ judged words hidden i → s ≡ (judged words hidden i && other)
+  differ-judged r s e t j = rw (← e, t, j) (both (judged words hidden i))
     where
       both : (b : Bool) → b ≡ (b && true)
       both true = refl
       both false = refl
 
-  pub differ-same : wanted ≡ reading → false ≡ (judged words hidden i && not (eqb wanted reading))
-  differ-same e = rw (eq-eqb wanted reading e) (neither (judged words hidden i))
+  pub differ-same : (r : Bool) → r ≡ other → r ≡ false → false ≡ (judged words hidden i && other)
+  differ-same r e f = rw (← e, f) (neither (judged words hidden i))
     where
       neither : (b : Bool) → false ≡ (b && false)
       neither true = refl

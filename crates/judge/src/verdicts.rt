@@ -7,14 +7,13 @@ use words::CONFIG_BASE;
 use words::Place;
 use words::WordAddress;
 ghost use mathlib.Core.Path.{_≡_};
-ghost use mathlib.Core.Bool.{_&&_, not};
+ghost use mathlib.Core.Bool.{_&&_};
 ghost use Prim.Native.Nat.{_+_, _^_, _≤_, _<_};
-ghost use lib.Dec.{eqb};
 ghost use lib.ListN.{length};
 ghost use Rattle.words.specs.Address.{configBase, addressOf};
 ghost use Rattle.device.specs.Record.{mostWords};
-ghost use Rattle.device.specs.Memory.{readingTail, protected};
-ghost use Rattle.judge.specs.Verify.{judged, entryDiffers, bare, verdictOf, verified};
+ghost use Rattle.device.specs.Memory.{readingTail, maskAt, protected};
+ghost use Rattle.judge.specs.Verify.{judged, differs, entryDiffers, bare, verdictOf, verified};
 ghost use Rattle.judge.specs.LawsCount.{Found, Noted};
 
 // How many entries differ so far, and the first of them if there is one.
@@ -36,16 +35,16 @@ pub fn verify(d: Device, wanted: &[u16], reading: &[u16]) -> Verdict
     if device::is_reading(d.words, reading) {} else {
         return only(21);
     }
-    verdict(d.words, wanted, reading)
+    verdict(d, wanted, reading)
 }
 
 // What two sound readings come to.
-fn verdict(words: u16, wanted: &[u16], reading: &[u16]) -> Verdict
-    requires { ⌜ (words ≤ mostWords) × (length (now wanted) ≡ words + readingTail) × (length (now reading) ≡ words + readingTail) ⌝ }
-    ensures { λ r. ⌜ r ≡ verdictOf words (now (wanted .entry)) (now (reading .entry)) ⌝ }
+fn verdict(d: Device, wanted: &[u16], reading: &[u16]) -> Verdict
+    requires { ⌜ (d .words ≤ mostWords) × (length (now wanted) ≡ d .words + readingTail) × (length (now reading) ≡ d .words + readingTail) ⌝ }
+    ensures { λ r. ⌜ r ≡ verdictOf d (now (wanted .entry)) (now (reading .entry)) ⌝ }
 {
-    let hidden = device::is_protected(words, reading);
-    let found = compare(words, hidden, wanted, reading);
+    let hidden = device::is_protected(d.words, reading);
+    let found = compare(d, hidden, wanted, reading);
     if found.count == 0 {
         if hidden {
             return only(41);
@@ -54,21 +53,21 @@ fn verdict(words: u16, wanted: &[u16], reading: &[u16]) -> Verdict
     }
     Verdict {
         number: 40,
-        address: address(words, found.first),
+        address: address(d.words, found.first),
         count: found.count,
     }
 }
 
 // Goes over the entries once, and looks one by one only where words differ.
-fn compare(words: u16, hidden: bool, wanted: &[u16], reading: &[u16]) -> Differences
-    requires { ⌜ (length (now wanted) ≡ words + readingTail) × (length (now reading) ≡ words + readingTail) × (hidden ≡ protected words (now reading)) ⌝ }
-    ensures { λ r. ⌜ Found (words + readingTail) (entryDiffers words (now (wanted .entry)) (now (reading .entry))) (r .count) (r .first) ⌝ }
+fn compare(d: Device, hidden: bool, wanted: &[u16], reading: &[u16]) -> Differences
+    requires { ⌜ (length (now wanted) ≡ d .words + readingTail) × (length (now reading) ≡ d .words + readingTail) × (hidden ≡ protected (d .words) (now reading)) ⌝ }
+    ensures { λ r. ⌜ Found (d .words + readingTail) (entryDiffers d (now (wanted .entry)) (now (reading .entry))) (r .count) (r .first) ⌝ }
 {
     let mut found = Differences { count: 0, first: 0 };
     let mut i: usize = 0;
     while i < reading.len() {
         let at = pass_same(wanted, reading, i);
-        let other = differ(words, hidden, at, wanted[at], reading[at]);
+        let other = differ(d, hidden, at, wanted[at], reading[at]);
         found = note(found, at, other);
         i = at + 1;
     }
@@ -92,14 +91,27 @@ fn note(found: Differences, i: usize, other: bool) -> Differences
     found
 }
 
-// Whether an entry is judged and its two words are not the same.
-fn differ(words: u16, hidden: bool, i: usize, wanted: u16, reading: u16) -> bool
-    ensures { λ r. ⌜ r ≡ (judged words hidden i && not (eqb wanted reading)) ⌝ }
+// Whether an entry is judged and its two words differ.
+fn differ(d: Device, hidden: bool, i: usize, wanted: u16, reading: u16) -> bool
+    ensures { λ r. ⌜ r ≡ (judged (d .words) hidden i && differs (maskAt d i) wanted reading) ⌝ }
 {
-    if wanted != reading {
-        return is_judged(words, hidden, i);
+    if word_differs(d, i, wanted, reading) {
+        return is_judged(d.words, hidden, i);
     }
     false
+}
+
+// Whether two words differ in a bit that their entry has: program words and user IDs have every bit.
+fn word_differs(d: Device, i: usize, wanted: u16, reading: u16) -> bool
+    ensures { λ r. ⌜ r ≡ differs (maskAt d i) wanted reading ⌝ }
+{
+    if wanted == reading {
+        return false;
+    }
+    if i < (d.words as usize) + 7 {
+        return true;
+    }
+    device::under_mask(d, i, wanted, reading) != reading
 }
 
 // Program words are judged unless they are hidden, user IDs and configuration words always.

@@ -136,21 +136,21 @@ module _ (mask a b : ℕ) where
           by-bit mask i (λ z. rw z (omega arith))
           (λ z. ap (λ n. min n (bit mask i)) (sym (under-inside mask a b i z) ∙ ap (λ w. bit w i) e))
 
+  pub equal-bit : bitAnd a mask ≡ bitAnd b mask → (i : ℕ) → bit mask i ≡ 1 → bit a i ≡ bit b i
+  equal-bit e i z =
+      let both : min (bit a i) (bit mask i) ≡ min (bit b i) (bit mask i) = sym (bit-and a mask i) ∙ (ap (λ w. bit w i) e ∙ bit-and b mask i) in
+      let x : bit a i < 2 = bit-lt a i in
+      let y : bit b i < 2 = bit-lt b i in
+      omega arith
+
   pub equal-under : a < 0x4000 → b < 0x4000 → bitAnd a mask ≡ bitAnd b mask → underMask mask a b ≡ b
   equal-under p q e = same-bits (underMask mask a b) b (λ i. by-bit (spare mask) i (inside i) (under-old mask a b i))
     where
-      under : (i : ℕ) → bit mask i ≡ 1 → bit a i ≡ bit b i
-      under i z =
-          let both : min (bit a i) (bit mask i) ≡ min (bit b i) (bit mask i) = sym (bit-and a mask i) ∙ (ap (λ w. bit w i) e ∙ bit-and b mask i) in
-          let x : bit a i < 2 = bit-lt a i in
-          let y : bit b i < 2 = bit-lt b i in
-          omega arith
-
       inside : (i : ℕ) → bit (spare mask) i ≡ 0 → bit (underMask mask a b) i ≡ bit b i
       inside i s =
           under-new mask a b i s
           ∙ by-lt i 14
-          (λ h. under i (by-bit mask i (λ z. let y : bit (spare mask) i ≡ 1 = spare-has mask i h z in absurd (omega arith)) (λ z. z)))
+          (λ h. equal-bit e i (by-bit mask i (λ z. let y : bit (spare mask) i ≡ 1 = spare-has mask i h z in absurd (omega arith)) (λ z. z)))
           (λ h. bit-high 14 a i p h ∙ sym (bit-high 14 b i q h))
 
 -- ---- which words can still be written to which

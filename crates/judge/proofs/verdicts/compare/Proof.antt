@@ -16,10 +16,10 @@ use Rattle.judge.proofs.verdicts.differ.Reads as differ-reads
 use Rattle.judge.proofs.verdicts.note.Reads as note-reads
 
 abbrev Inv-loop : tie.InvT-loop
-Inv-loop words hidden wanted reading found₀ i₀ found i = (i ≤ length reading) × Found i (entryDiffers words wanted reading) (found .count) (found .first)
+Inv-loop d hidden wanted reading found₀ i₀ found i = (i ≤ length reading) × Found i (entryDiffers d wanted reading) (found .count) (found .first)
 
 abbrev μ-loop : tie.MeasureT-loop
-μ-loop words hidden wanted reading found₀ i₀ found i = length reading - i
+μ-loop d hidden wanted reading found₀ i₀ found i = length reading - i
 
 loop-holds : tie.Need-loop-holds Inv-loop μ-loop
 loop-holds c = (omega arith, found-none _ _)
