@@ -98,7 +98,7 @@ module _ (table sheet wanted : List ℕ) (number : ℕ) (e : number ≡ boardNum
       verify-long = length-take-le (d .words + readingTail) (words ++ rest) verify-within
 
       module _ (v : Verdict) (is : v ≡ verified d (take (d .words + readingTail) (words ++ rest)) (take (d .words + readingTail) reading)) where
-        verdict-is : v ≡ verdictOf (d .words) (wordsIn (d .words) wanted) (take (d .words + readingTail) reading)
+        verdict-is : v ≡ verdictOf d (wordsIn (d .words) wanted) (take (d .words + readingTail) reading)
         verdict-is =
             is ∙ (ap (λ l. verified d l (take (d .words + readingTail) reading)) front
             ∙ verified-judged d (wordsIn (d .words) wanted) (take (d .words + readingTail) reading) (b .sound) (read-sound d wanted good) (b .good))
@@ -107,27 +107,27 @@ module _ (table sheet wanted : List ℕ) (number : ℕ) (e : number ≡ boardNum
         unfolding verifyText verdictLine
         verify-found =
             ap verdictLine verdict-is
-            ∙ (ap (λ l. verdictLine (verdictOf (d .words) (wordsIn (d .words) wanted) l)) (b .front)
-            ∙ (ap (λ x. verdictLine (verdictOf (x .words) (wordsIn (x .words) wanted) (boardReading table sheet))) (b .record-is)
+            ∙ (ap (λ l. verdictLine (verdictOf d (wordsIn (d .words) wanted) l)) (b .front)
+            ∙ (ap (λ x. verdictLine (verdictOf x (wordsIn (x .words) wanted) (boardReading table sheet))) (b .record-is)
             ∙ sym (pick-true _ _ _ (eq-eqb (verifyNumber table sheet wanted) 0 (judged-is ∙ pick-true _ _ _ good)))))
 
         -- the count fits a number that is printed
         pub verify-count : v .count ≤ mostReading
         verify-count =
-            let same : v .count ≡ verdictOf (d .words) (wordsIn (d .words) wanted) (take (d .words + readingTail) reading) .count = ap (λ x. x .count) verdict-is in
+            let same : v .count ≡ verdictOf d (wordsIn (d .words) wanted) (take (d .words + readingTail) reading) .count = ap (λ x. x .count) verdict-is in
             let most : d .words ≤ mostWords = b .most in
-            omega (arith, counted (d .words) (wordsIn (d .words) wanted) (take (d .words + readingTail) reading))
+            omega (arith, counted d (wordsIn (d .words) wanted) (take (d .words + readingTail) reading))
           where
-            counted : (p : ℕ) (aim l : List ℕ) → verdictOf p aim l .count ≤ p + readingTail
-            counted p aim l = unfold verdictOf in by (ltb 0 (countTo (p + readingTail) (entryDiffers p aim l))) (protected p l) (count-le (p + readingTail) (entryDiffers p aim l))
+            counted : (e : Device) (aim l : List ℕ) → verdictOf e aim l .count ≤ e .words + readingTail
+            counted e aim l = unfold verdictOf in by (ltb 0 (countTo (e .words + readingTail) (entryDiffers e aim l))) (protected (e .words) l) (count-le (e .words + readingTail) (entryDiffers e aim l))
               where
-                by : (c h : Bool) → countTo (p + readingTail) (entryDiffers p aim l) ≤ p + readingTail
+                by : (c h : Bool) → countTo (e .words + readingTail) (entryDiffers e aim l) ≤ e .words + readingTail
                     → pick c (record {
                       number = 40;
-                      address = record { 0 = addressOf configBase p (firstTo (p + readingTail) (entryDiffers p aim l)) };
-                      count = countTo (p + readingTail) (entryDiffers p aim l);
+                      address = record { 0 = addressOf configBase (e .words) (firstTo (e .words + readingTail) (entryDiffers e aim l)) };
+                      count = countTo (e .words + readingTail) (entryDiffers e aim l);
                     })
-                    (pick h (bare 41) (bare 0)) .count ≤ p + readingTail
+                    (pick h (bare 41) (bare 0)) .count ≤ e .words + readingTail
                 by true h m = unfold pick in m
                 by false true m = unfold pick bare in omega arith
                 by false false m = unfold pick bare in omega arith
@@ -139,4 +139,4 @@ verify-short table sheet wanted =
     (λ z. unfold verdictLine in omega (arith, verdict-short (verdict .number) (verdict .address .0) (verdict .count)))
   where
     verdict : Verdict
-    verdict = verdictOf (recordOf table sheet .words) (wordsIn (recordOf table sheet .words) wanted) (boardReading table sheet)
+    verdict = verdictOf (recordOf table sheet) (wordsIn (recordOf table sheet .words) wanted) (boardReading table sheet)

@@ -30,4 +30,4 @@ verifyNumber table sheet wanted =
 unfoldable pub verifyText : (table sheet wanted : List ℕ) → List ℕ
 verifyText table sheet wanted =
     unless (eqb (verifyNumber table sheet wanted) 0) (refusedText (verifyNumber table sheet wanted) 0)
-    (verdictLine (verdictOf (recordOf table sheet .words) (wordsIn (recordOf table sheet .words) wanted) (boardReading table sheet)))
+    (verdictLine (verdictOf (recordOf table sheet) (wordsIn (recordOf table sheet .words) wanted) (boardReading table sheet)))

@@ -6,11 +6,11 @@ use mathlib.Core.Bool.{false}
 use mathlib.Core.List.{[]}
 use lib.ListN.{getD}
 use Rattle.words.specs.Choice.{pick}
-use Rattle.words.specs.Word.{isWord, bit, wordsOf}
+use Rattle.words.specs.Word.{isWord, bit, without, spare, underMask, wordsOf}
 use Rattle.words.specs.Lists.{build, inRange, every}
 use Rattle.words.specs.Address.{entryOf, successor}
 use Rattle.device.specs.Record.{rowOk, wordsOk, deviceOk}
-use Rattle.device.specs.Memory.{isConfig, programmable, zeroBit}
+use Rattle.device.specs.Memory.{isConfig, programmable, maskAt, zeroBit}
 use Rattle.plan.specs.Wanted.{known, wanted, differs, some, rowDiffers, idDiffers, configWrites}
 use Rattle.plan.specs.Steps.{walk, loads, setSteps, erasing, rowSteps, rowsFrom, wordSteps, writesFrom, configSteps, taskOf, updateTask}
 use Rattle.plan.specs.Demands.{programmed}
@@ -27,19 +27,20 @@ use Rattle.worked.specs.Errors.{boardCells, rowsOf, configOf, blankWhere
 -- ---- 3FFFh where the file is silent: the word that the board had is lost
 
 silent-leaves : getD (ran tiny (bytesOf (blankWhereSilent tiny silentImage silentBoard)) 100 (boardCells silentBoard) [] .target .cells) 2 0 ≡ 0x3fff
-unfolding blankWhereSilent pick isWord bit wordsOf every build inRange entryOf successor rowOk wordsOk deviceOk isConfig zeroBit blank locked edit
-    inProgram idCell configCell atErase rowErased bulkErased beginWritten latchOf burnt entered loadOk load plain decoded effect stepEffect soundCells
-    unread codeAt payloadAt onward turn after started runOf runRefusal ran codeOf payloadOf stepBytes bytesOf known wanted differs some rowDiffers
-    idDiffers configWrites walk loads setSteps erasing rowSteps rowsFrom wordSteps writesFrom configSteps taskOf updateTask rowsOf configOf
+unfolding blankWhereSilent pick without spare underMask maskAt isWord bit wordsOf every build inRange entryOf successor rowOk wordsOk deviceOk
+    isConfig zeroBit blank locked edit inProgram idCell configCell atErase rowErased bulkErased beginWritten latchOf burnt entered loadOk load plain
+    decoded effect stepEffect soundCells unread codeAt payloadAt onward turn after started runOf runRefusal ran codeOf payloadOf stepBytes bytesOf
+    known wanted differs some rowDiffers idDiffers configWrites walk loads setSteps erasing rowSteps rowsFrom wordSteps writesFrom configSteps taskOf
+    updateTask rowsOf configOf
 silent-leaves = refl
 
 silent-wanted : getD (programmed tiny silentImage silentBoard (boardCells silentBoard)) 2 0 ≡ 0x0123
-unfolding programmed programmable isConfig pick build inRange known wanted
+unfolding programmed programmable isConfig pick without spare underMask maskAt build inRange known wanted
 silent-wanted = refl
 
 silent-steps : Prim.Native.Nat._/_ (lib.ListN.length (bytesOf (blankWhereSilent tiny silentImage silentBoard))) 3 ≤ 100
-unfolding blankWhereSilent pick isConfig codeOf payloadOf stepBytes bytesOf known wanted differs some rowDiffers idDiffers configWrites walk loads
-    setSteps erasing rowSteps rowsFrom wordSteps writesFrom configSteps taskOf updateTask rowsOf configOf
+unfolding blankWhereSilent pick without spare underMask maskAt isConfig codeOf payloadOf stepBytes bytesOf known wanted differs some rowDiffers
+    idDiffers configWrites walk loads setSteps erasing rowSteps rowsFrom wordSteps writesFrom configSteps taskOf updateTask rowsOf configOf
 silent-steps = omega arith
 
 pub silent-fails : Recovers (modelOf tiny) (bytesOf (blankWhereSilent tiny silentImage silentBoard)) (boardCells silentBoard) (programmed tiny silentImage silentBoard (boardCells silentBoard)) → ⊥
@@ -53,19 +54,20 @@ silent-fails r =
 -- ---- CP before the last row: the row that comes after it is not written, cut or not
 
 config-first-leaves : getD (ran tiny (bytesOf (configFirst tiny protectingImage blankTiny)) 100 (boardCells blankTiny) [] .target .cells) 3 0 ≡ 0x3fff
-unfolding configFirst pick isWord bit wordsOf every build inRange entryOf successor rowOk wordsOk deviceOk isConfig zeroBit blank locked edit
-    inProgram idCell configCell atErase rowErased bulkErased beginWritten latchOf burnt entered loadOk load plain decoded effect stepEffect soundCells
-    unread codeAt payloadAt onward turn after started runOf runRefusal ran codeOf payloadOf stepBytes bytesOf known wanted differs some rowDiffers
-    idDiffers configWrites walk loads setSteps erasing rowSteps rowsFrom wordSteps writesFrom configSteps taskOf updateTask rowsOf configOf
+unfolding configFirst pick without spare underMask maskAt isWord bit wordsOf every build inRange entryOf successor rowOk wordsOk deviceOk isConfig
+    zeroBit blank locked edit inProgram idCell configCell atErase rowErased bulkErased beginWritten latchOf burnt entered loadOk load plain decoded
+    effect stepEffect soundCells unread codeAt payloadAt onward turn after started runOf runRefusal ran codeOf payloadOf stepBytes bytesOf known
+    wanted differs some rowDiffers idDiffers configWrites walk loads setSteps erasing rowSteps rowsFrom wordSteps writesFrom configSteps taskOf
+    updateTask rowsOf configOf
 config-first-leaves = refl
 
 config-first-wanted : getD (programmed tiny protectingImage blankTiny (boardCells blankTiny)) 3 0 ≡ 0x1234
-unfolding programmed programmable isConfig pick build inRange known wanted
+unfolding programmed programmable isConfig pick without spare underMask maskAt build inRange known wanted
 config-first-wanted = refl
 
 config-first-steps : Prim.Native.Nat._/_ (lib.ListN.length (bytesOf (configFirst tiny protectingImage blankTiny))) 3 ≤ 100
-unfolding configFirst pick isConfig inRange codeOf payloadOf stepBytes bytesOf known wanted differs some rowDiffers idDiffers configWrites walk loads
-    setSteps erasing rowSteps rowsFrom wordSteps writesFrom configSteps taskOf updateTask rowsOf configOf
+unfolding configFirst pick without spare underMask maskAt isConfig inRange codeOf payloadOf stepBytes bytesOf known wanted differs some rowDiffers
+    idDiffers configWrites walk loads setSteps erasing rowSteps rowsFrom wordSteps writesFrom configSteps taskOf updateTask rowsOf configOf
 config-first-steps = omega arith
 
 pub config-first-fails : Recovers (modelOf tiny) (bytesOf (configFirst tiny protectingImage blankTiny)) (boardCells blankTiny) (programmed tiny protectingImage blankTiny (boardCells blankTiny)) → ⊥
@@ -79,7 +81,7 @@ config-first-fails r =
 -- ---- the row of the first loaded word: the model leaves other cells
 
 pub first-row-not-written : same (ran tiny (bytesOf acrossTwo) 100 (boardCells blankTiny) [] .target .cells) firstRowWritten ≡ false
-unfolding same acrossTwo loadsFrom pick isWord bit wordsOf every build inRange entryOf successor rowOk wordsOk deviceOk isConfig zeroBit blank locked
-    edit inProgram idCell configCell atErase rowErased bulkErased beginWritten latchOf burnt entered loadOk load plain decoded effect stepEffect
-    soundCells unread codeAt payloadAt onward turn after started runOf runRefusal ran codeOf payloadOf stepBytes bytesOf
+unfolding same acrossTwo loadsFrom pick without spare underMask maskAt isWord bit wordsOf every build inRange entryOf successor rowOk wordsOk deviceOk
+    isConfig zeroBit blank locked edit inProgram idCell configCell atErase rowErased bulkErased beginWritten latchOf burnt entered loadOk load plain
+    decoded effect stepEffect soundCells unread codeAt payloadAt onward turn after started runOf runRefusal ran codeOf payloadOf stepBytes bytesOf
 first-row-not-written = refl

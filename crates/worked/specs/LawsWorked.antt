@@ -2,7 +2,7 @@
 use mathlib.Core.Path.{_≡_, refl}
 use mathlib.Core.Bool.{true}
 use Rattle.words.specs.Choice.{pick}
-use Rattle.words.specs.Word.{isWord, bit, wordsOf}
+use Rattle.words.specs.Word.{isWord, bit, without, spare, underMask, wordsOf}
 use Rattle.words.specs.Lists.{build, inRange, every}
 use Rattle.numerals.specs.Text.{split, inFront}
 use Rattle.numerals.specs.Hex.{within, digitOf, joined, byteBy}
@@ -54,15 +54,17 @@ unfolding blankSum pick bit Memory.zeroBit Memory.protected sumTo configSum nibb
 blank-sum = refl
 
 one-row : oneRow ≡ true
-unfolding oneRow takes pick isWord bit every wordsOf rowOk wordsOk deviceOk idFits Memory.isConfig Memory.zeroBit Memory.programmable Memory.entryOk
-    Memory.imageOk Memory.readingOk Memory.protected onlyClears configOk updateNumber known wanted differs some rowDiffers idDiffers configWrites
-    inRange walk loads setSteps erasing rowSteps rowsFrom wordSteps writesFrom configSteps bodyOf taskOf updateTask updateSteps
+unfolding oneRow takes pick without spare underMask Memory.maskAt isWord bit every wordsOf rowOk wordsOk deviceOk idFits Memory.isConfig
+    Memory.zeroBit Memory.programmable Memory.entryOk Memory.imageOk Memory.readingOk Memory.protected onlyClears configOk updateNumber known wanted
+    differs some rowDiffers idDiffers configWrites inRange walk loads setSteps erasing rowSteps rowsFrom wordSteps writesFrom configSteps bodyOf
+    taskOf updateTask updateSteps
 one-row = refl
 
 across-rows : acrossRows ≡ true
-unfolding acrossRows same loadsFrom pick isWord bit wordsOf every build inRange entryOf successor rowOk wordsOk deviceOk Memory.isConfig
-    Memory.zeroBit blank locked edit inProgram idCell configCell atErase rowErased bulkErased beginWritten latchOf burnt entered loadOk load plain
-    decoded effect stepEffect soundCells unread codeAt payloadAt onward turn after started runOf runRefusal ran codeOf payloadOf stepBytes bytesOf
+unfolding acrossRows same loadsFrom pick without spare underMask Memory.maskAt isWord bit wordsOf every build inRange entryOf successor rowOk wordsOk
+    deviceOk Memory.isConfig Memory.zeroBit blank locked edit inProgram idCell configCell atErase rowErased bulkErased beginWritten latchOf burnt
+    entered loadOk load plain decoded effect stepEffect soundCells unread codeAt payloadAt onward turn after started runOf runRefusal ran codeOf
+    payloadOf stepBytes bytesOf
 across-rows = refl
 
 -- every worked case holds
