@@ -85,3 +85,18 @@ pub(crate) fn id_fits(line: &[u8], at: usize, out: &mut [u8]) -> usize {
     }
     put::number(out, at, device::id_fits(d.device, word.value) as u64)
 }
+
+pub(crate) fn under_mask(line: &[u8], at: usize, out: &mut [u8]) -> usize {
+    let d = fields::device(line, at);
+    let i = fields::number(line, d.at);
+    let new = fields::short(line, i.at);
+    let old = fields::short(line, new.at);
+    if old.at != line.len() {
+        return NOWHERE;
+    }
+    put::number(
+        out,
+        at,
+        device::under_mask(d.device, i.value as usize, new.value, old.value) as u64,
+    )
+}

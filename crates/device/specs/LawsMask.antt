@@ -24,7 +24,7 @@ module _ (d : Device) (i : ℕ) where
       pick-false (eqb i (d .words + 7)) _ _ (ne-eqb i (d .words + 7) (λ f. omega arith))
       ∙ pick-true (eqb i (d .words + 8)) _ _ (eq-eqb i (d .words + 8) e)
 
-  pub mask-all : (i ≡ d .words + 7 → ⊥) → (i ≡ d .words + 8 → ⊥) → maskAt d i ≡ erased
+  mask-all : (i ≡ d .words + 7 → ⊥) → (i ≡ d .words + 8 → ⊥) → maskAt d i ≡ erased
   unfolding maskAt
   mask-all p q =
       pick-false (eqb i (d .words + 7)) _ _ (ne-eqb i (d .words + 7) p)

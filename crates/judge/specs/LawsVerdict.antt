@@ -256,7 +256,7 @@ reserved-same d wanted wanted′ reading reading′ f =
 module _ (d : Device) (ok : deviceOk d ≡ true) (wanted wanted′ reading reading′ : List ℕ)
     (w : readingOk (d .words) wanted ≡ true) (w′ : readingOk (d .words) wanted′ ≡ true) (r : readingOk (d .words) reading ≡ true) (r′ : readingOk (d .words) reading′ ≡ true)
     (same : (i : ℕ) → i < d .words + readingTail
-      → (bitAnd (getD wanted i 0) (maskAt d i) ≡ bitAnd (getD wanted′ i 0) (maskAt d i)) × (bitAnd (getD reading i 0) (maskAt d i) ≡ bitAnd (getD reading′ i 0) (maskAt d i))) where
+    → (bitAnd (getD wanted i 0) (maskAt d i) ≡ bitAnd (getD wanted′ i 0) (maskAt d i)) × (bitAnd (getD reading i 0) (maskAt d i) ≡ bitAnd (getD reading′ i 0) (maskAt d i))) where
   -- mask 1 has the bit of CP
   spare-guard : protected (d .words) reading ≡ protected (d .words) reading′
   unfolding protected zeroBit

@@ -28,7 +28,7 @@ use Rattle.device.specs.LawsMemory.{programmable-low, programmable-never, progr
 use Rattle.judge.specs.declared.Verdict.{Verdict}
 use Rattle.judge.specs.Count.{countTo, firstTo}
 use Rattle.judge.specs.LawsCount.{Found}
-use Rattle.judge.specs.Verify.{judged, differs, entryDiffers, bare, verdictOf, verified}
+use Rattle.judge.specs.Verify.{judged, wordDiffers, entryDiffers, bare, verdictOf, verified}
 
 -- ---- which entries are judged
 
@@ -65,19 +65,19 @@ module _ (words : ℕ) (hidden : Bool) (i : ℕ) where
 
 module _ (mask wanted reading : ℕ) where
   -- a word does not differ if it takes the wanted bits under the mask and stays as it is
-  pub same-of : differs mask wanted reading ≡ false → underMask mask wanted reading ≡ reading
-  unfolding differs
+  pub same-of : wordDiffers mask wanted reading ≡ false → underMask mask wanted reading ≡ reading
+  unfolding wordDiffers
   same-of e = eqb-true (underMask mask wanted reading) reading (not-false (eqb (underMask mask wanted reading) reading) e)
 
-  pub same-is : underMask mask wanted reading ≡ reading → differs mask wanted reading ≡ false
-  unfolding differs
+  pub same-is : underMask mask wanted reading ≡ reading → wordDiffers mask wanted reading ≡ false
+  unfolding wordDiffers
   same-is e = rw (eq-eqb (underMask mask wanted reading) reading e)
 
 -- only the bits under the mask have a say
-pub differs-same : (mask a b c d : ℕ) → a < 0x4000 → b < 0x4000 → c < 0x4000 → d < 0x4000 → bitAnd a mask ≡ bitAnd b mask → bitAnd c mask ≡ bitAnd d mask → differs mask a c ≡ differs mask b d
+pub differs-same : (mask a b c d : ℕ) → a < 0x4000 → b < 0x4000 → c < 0x4000 → d < 0x4000 → bitAnd a mask ≡ bitAnd b mask → bitAnd c mask ≡ bitAnd d mask → wordDiffers mask a c ≡ wordDiffers mask b d
 differs-same mask a b c d pa pb pc pd e f =
-    by-test (differs mask b d)
-    (λ t. by-test (differs mask a c) (λ s. s ∙ sym t) (λ s. absurd (true-not-false t (same-is mask b d (equal-under mask b d pb pd (sym e ∙ (under-equal mask a c (same-of mask a c s) ∙ f)))))))
+    by-test (wordDiffers mask b d)
+    (λ t. by-test (wordDiffers mask a c) (λ s. s ∙ sym t) (λ s. absurd (true-not-false t (same-is mask b d (equal-under mask b d pb pd (sym e ∙ (under-equal mask a c (same-of mask a c s) ∙ f)))))))
     (λ t. same-is mask a c (equal-under mask a c pa pc (e ∙ (under-equal mask b d (same-of mask b d t) ∙ sym f))) ∙ sym t)
 
 module _ (d : Device) (wanted reading : List ℕ) (i : ℕ) where
@@ -90,7 +90,7 @@ module _ (d : Device) (wanted reading : List ℕ) (i : ℕ) where
   pub differs-under : underMask (maskAt d i) (getD wanted i 0) (getD reading i 0) ≡ getD reading i 0 → entryDiffers d wanted reading i ≡ false
   unfolding entryDiffers
   differs-under e =
-      second-fails (judged (d .words) (protected (d .words) reading) i) (differs (maskAt d i) (getD wanted i 0) (getD reading i 0))
+      second-fails (judged (d .words) (protected (d .words) reading) i) (wordDiffers (maskAt d i) (getD wanted i 0) (getD reading i 0))
       (same-is (maskAt d i) (getD wanted i 0) (getD reading i 0) e)
 
   pub differs-equal : getD wanted i 0 ≡ getD reading i 0 → entryDiffers d wanted reading i ≡ false
@@ -101,7 +101,7 @@ module _ (d : Device) (wanted reading : List ℕ) (i : ℕ) where
   differs-not-judged j = rw j
 
   -- the entry as the code looks at it
-  pub differs-of : (hidden other : Bool) → hidden ≡ protected (d .words) reading → other ≡ (judged (d .words) hidden i && differs (maskAt d i) (getD wanted i 0) (getD reading i 0))
+  pub differs-of : (hidden other : Bool) → hidden ≡ protected (d .words) reading → other ≡ (judged (d .words) hidden i && wordDiffers (maskAt d i) (getD wanted i 0) (getD reading i 0))
       → other ≡ entryDiffers d wanted reading i
   unfolding entryDiffers
   differs-of hidden other p q = rw (← p) q
@@ -185,16 +185,16 @@ address-ascends words i j low h = by (decLt i words) (decLt j words)
 -- ---- the code's tests of an entry: whether its words differ in a bit that it has comes first
 
 module _ (d : Device) (i wanted reading : ℕ) where
-  pub words-same : wanted ≡ reading → false ≡ differs (maskAt d i) wanted reading
+  pub words-same : wanted ≡ reading → false ≡ wordDiffers (maskAt d i) wanted reading
   words-same e = sym (same-is (maskAt d i) wanted reading (ap (λ w. underMask (maskAt d i) w reading) e ∙ under-same (maskAt d i) reading))
 
   -- program words and user IDs have every bit
-  pub words-other : (wanted ≡ reading → ⊥) → i < d .words + cpWord → true ≡ differs (maskAt d i) wanted reading
-  unfolding differs
+  pub words-other : (wanted ≡ reading → ⊥) → i < d .words + cpWord → true ≡ wordDiffers (maskAt d i) wanted reading
+  unfolding wordDiffers
   words-other n h = rw (under-plain d i h wanted reading, ne-eqb wanted reading n)
 
-  pub words-under : (word : ℕ) → word ≡ underMask (maskAt d i) wanted reading → not (eqb word reading) ≡ differs (maskAt d i) wanted reading
-  unfolding differs
+  pub words-under : (word : ℕ) → word ≡ underMask (maskAt d i) wanted reading → not (eqb word reading) ≡ wordDiffers (maskAt d i) wanted reading
+  unfolding wordDiffers
   words-under word e = rw e
 
 module _ (words : ℕ) (hidden : Bool) (i : ℕ) (other : Bool) where

@@ -18,12 +18,12 @@ unfoldable pub judged : (words : ℕ) → (hidden : Bool) → ℕ → Bool
 judged words hidden i = programmable words i && not (hidden && ltb i words)
 
 -- the wanted word has another bit under the mask than the one that was read
-unfoldable pub differs : (mask wanted reading : ℕ) → Bool
-differs mask wanted reading = not (eqb (underMask mask wanted reading) reading)
+unfoldable pub wordDiffers : (mask wanted reading : ℕ) → Bool
+wordDiffers mask wanted reading = not (eqb (underMask mask wanted reading) reading)
 
 -- entry i is judged and differs
 unfoldable pub entryDiffers : Device → (wanted reading : List ℕ) → ℕ → Bool
-entryDiffers d wanted reading i = judged (d .words) (protected (d .words) reading) i && differs (maskAt d i) (getD wanted i 0) (getD reading i 0)
+entryDiffers d wanted reading i = judged (d .words) (protected (d .words) reading) i && wordDiffers (maskAt d i) (getD wanted i 0) (getD reading i 0)
 
 -- a verdict that names nothing but its number
 unfoldable pub bare : ℕ → Verdict

@@ -13,7 +13,7 @@ ghost use lib.ListN.{length};
 ghost use Rattle.words.specs.Address.{configBase, addressOf};
 ghost use Rattle.device.specs.Record.{mostWords};
 ghost use Rattle.device.specs.Memory.{readingTail, maskAt, protected};
-ghost use Rattle.judge.specs.Verify.{judged, differs, entryDiffers, bare, verdictOf, verified};
+ghost use Rattle.judge.specs.Verify.{judged, wordDiffers, entryDiffers, bare, verdictOf, verified};
 ghost use Rattle.judge.specs.LawsCount.{Found, Noted};
 
 // How many entries differ so far, and the first of them if there is one.
@@ -93,7 +93,7 @@ fn note(found: Differences, i: usize, other: bool) -> Differences
 
 // Whether an entry is judged and its two words differ.
 fn differ(d: Device, hidden: bool, i: usize, wanted: u16, reading: u16) -> bool
-    ensures { λ r. ⌜ r ≡ (judged (d .words) hidden i && differs (maskAt d i) wanted reading) ⌝ }
+    ensures { λ r. ⌜ r ≡ (judged (d .words) hidden i && wordDiffers (maskAt d i) wanted reading) ⌝ }
 {
     if word_differs(d, i, wanted, reading) {
         return is_judged(d.words, hidden, i);
@@ -103,7 +103,7 @@ fn differ(d: Device, hidden: bool, i: usize, wanted: u16, reading: u16) -> bool
 
 // Whether two words differ in a bit that their entry has: program words and user IDs have every bit.
 fn word_differs(d: Device, i: usize, wanted: u16, reading: u16) -> bool
-    ensures { λ r. ⌜ r ≡ differs (maskAt d i) wanted reading ⌝ }
+    ensures { λ r. ⌜ r ≡ wordDiffers (maskAt d i) wanted reading ⌝ }
 {
     if wanted == reading {
         return false;

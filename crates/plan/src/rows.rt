@@ -2,8 +2,8 @@
 use crate::orders::put_erase;
 use crate::orders::put_order;
 use crate::orders::put_walk;
-use crate::source::some_differ;
 use crate::source::plain_word;
+use crate::source::some_differ;
 use device::Device;
 use target::Order;
 ghost use mathlib.Core.List.{[], _∷_};

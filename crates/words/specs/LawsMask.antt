@@ -17,7 +17,7 @@ bit-lt : (w i : ℕ) → bit w i < 2
 unfolding bit
 bit-lt w i = mod-lt (w / 2 ^ i) (zero-lt-suc 1)
 
-pub by-bit : {C : Type 0} (w i : ℕ) → (bit w i ≡ 0 → C) → (bit w i ≡ 1 → C) → C
+by-bit : {C : Type 0} (w i : ℕ) → (bit w i ≡ 0 → C) → (bit w i ≡ 1 → C) → C
 by-bit w i f g = by-eq (bit w i) 0 f (λ n. g (let z : bit w i < 2 = bit-lt w i in omega arith))
 
 max-lt : (a b : ℕ) → a < 2 → b < 2 → max a b < 2
@@ -47,7 +47,7 @@ module _ (bits w i : ℕ) where
   unfolding without
   bit-without = bit-xor w (bitAnd w bits) i ∙ ap (differ (bit w i)) (bit-and w bits i)
 
-  pub without-not : bit bits i ≡ 0 → bit (without bits w) i ≡ bit w i
+  without-not : bit bits i ≡ 0 → bit (without bits w) i ≡ bit w i
   without-not e = bit-without ∙ (ap (λ n. differ (bit w i) (min (bit w i) n)) e ∙ (ap (differ (bit w i)) (nothing (bit w i)) ∙ same (bit w i)))
     where
       nothing : (n : ℕ) → min n 0 ≡ 0
@@ -57,7 +57,7 @@ module _ (bits w i : ℕ) where
       same zero = refl
       same (suc n) = refl
 
-  pub without-has : bit bits i ≡ 1 → bit (without bits w) i ≡ 0
+  without-has : bit bits i ≡ 1 → bit (without bits w) i ≡ 0
   without-has e = bit-without ∙ (ap (λ n. differ (bit w i) (min (bit w i) n)) e ∙ by-bit w i (λ z. rw z) (λ z. rw z))
 
 -- ---- spare bits
@@ -71,11 +71,11 @@ erased-bit i h =
     omega arith
 
 module _ (mask i : ℕ) where
-  pub spare-has : i < 14 → bit mask i ≡ 0 → bit (spare mask) i ≡ 1
+  spare-has : i < 14 → bit mask i ≡ 0 → bit (spare mask) i ≡ 1
   unfolding spare
   spare-has h e = without-not mask erased i e ∙ erased-bit i h
 
-  pub spare-not : bit mask i ≡ 1 → bit (spare mask) i ≡ 0
+  spare-not : bit mask i ≡ 1 → bit (spare mask) i ≡ 0
   unfolding spare
   spare-not e = without-has mask erased i e
 
@@ -201,7 +201,7 @@ module _ (mask : ℕ) where
           (λ h. inl (bit-high 14 old i q h ∙ sym (bit-high 14 (underMask mask new old) i (under-lt mask new old p q) h)))
 
   -- an erased one can be written to what any new bits make of it
-  pub reaches-fresh : (new : ℕ) → new < 0x4000 → Reaches mask erased (underMask mask new erased)
+  reaches-fresh : (new : ℕ) → new < 0x4000 → Reaches mask erased (underMask mask new erased)
   reaches-fresh new h = reaches-cleared new erased h (omega arith) (erased-contains (underMask mask new erased) (under-lt mask new erased h (omega arith)))
 
 -- and under a mask that has every bit to any word

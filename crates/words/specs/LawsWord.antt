@@ -1,12 +1,12 @@
 -- Laws of 14-bit words, stated over the width where it has no say: AND, containment, and words between an old and a new one.
 use Prim.Native.Nat.{ℕ, zero, suc, _+_, _-_, _*_, _/_, _%_, _^_, _≤_, _<_, min}
-use native.Mathlib.Nat.{mod-eq-of-lt, div-one, div-div-eq-div-mul, div-eq-of-lt, pow-succ', min-le-left, min-eq-right, zero-div, zero-mod, div-lt-iff-lt-mul}
+use native.Mathlib.Nat.{mod-eq-of-lt, div-one, div-div-eq-div-mul, div-eq-of-lt, pow-succ', min-le-left, zero-div, zero-mod, div-lt-iff-lt-mul}
 use native.Mathlib.Omega.{arith}
 use mathlib.Core.Path.{_≡_, refl, sym, ap, _∙_}
 use mathlib.Core.Logic.{inr, ⊎-elim}
 use mathlib.Core.Bool.{true, false}
 use lib.Pow.{pow-pos, shr-shr}
-use lib.Bits.{bitAnd, and-step, and-comm, and-mask, and-self, and-shr}
+use lib.Bits.{bitAnd, and-step, and-comm, and-mask, and-shr}
 use borrow.Author.Tests.{ltb-true, lt-ltb, le-ltb, eqb-true, eq-eqb, ne-eqb}
 use mathlib.Core.List.{List}
 use lib.Dec.{eqb}
@@ -116,22 +116,9 @@ contains-bits w x c i =
     let e : bit x i ≡ min (bit w i) (bit x i) = ap (λ n. bit n i) (sym c) ∙ bit-and w x i in
     rw e (min-le-left (bit w i) (bit x i))
 
-pub bits-contain : (w x : ℕ) → ((i : ℕ) → bit x i ≤ bit w i) → Contains w x
-unfolding Contains
-bits-contain w x h = same-bits (bitAnd w x) x (λ i. bit-and w x i ∙ min-eq-right (h i))
-
-pub contains-self : (x : ℕ) → Contains x x
-unfolding Contains
-contains-self x = and-self x
-
 pub erased-contains : (x : ℕ) → x < 0x4000 → Contains erased x
 unfolding Contains
 erased-contains x h = and-erased x h
-
--- a write over a word that contains it gives the word written
-pub write-over : (w x : ℕ) → Contains w x → bitAnd w x ≡ x
-unfolding Contains
-write-over w x c = c
 
 -- ---- between an old word and a new one
 
@@ -149,18 +136,6 @@ pub between-lt : (k old new w : ℕ) → old < 2 ^ k → new < 2 ^ k → Between
 unfolding Between
 between-lt k old new w p q b =
     high-bits k w (λ i h. ⊎-elim (λ e. e ∙ bit-high k old i p h) (λ e. e ∙ bit-high k new i q h) (b i))
-
--- a torn word keeps what both words contain
-pub between-contains : (old new w x : ℕ) → Contains old x → Contains new x → Between old new w → Contains w x
-unfolding Between
-between-contains old new w x p q b =
-    bits-contain w x
-    (λ i. ⊎-elim
-    (λ e. rw e (contains-bits old x p i))
-    (λ e. rw e (contains-bits new x q i))
-    (b i))
-
--- ---- halves and bytes
 
 -- ---- bit 7
 

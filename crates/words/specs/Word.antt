@@ -29,7 +29,7 @@ bit w i = w / 2 ^ i % 2
 unfoldable pub Between : ℕ → ℕ → ℕ → Type 0
 Between old new w = (i : ℕ) → (bit w i ≡ bit old i) ⊎ (bit w i ≡ bit new i)
 
--- w has every bit that x has, so that a write of x over w gives x
+-- w has every bit that x has
 unfoldable pub Contains : ℕ → ℕ → Type 0
 Contains w x = bitAnd w x ≡ x
 

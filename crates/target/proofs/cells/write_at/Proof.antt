@@ -32,7 +32,9 @@ div-write-row : tie.Need-div-write-row
 div-write-row c = search (some-row, needs)
 
 write-row-requires : tie.Need-write-row-requires
-write-row-requires c κs = let v = sound-chip (c .before .before .before .before .before .before .before .before .before .args .d) (c .before .before .before .before .before .before .before .before .before .pre .0) in let h = set-within _ v (c .before .before .before .before .before .before .before .before .before .args .at .0) (c .before .before .before .before .if1 .taken) in (v .carried, omega arith)
+write-row-requires c κs = let v = sound-chip (c .before .before .before .before .before .before .before .before .before .args .d)
+    (c .before .before .before .before .before .before .before .before .before .pre .0) in let h = set-within _ v
+    (c .before .before .before .before .before .before .before .before .before .args .at .0) (c .before .before .before .before .if1 .taken) in (v .carried, omega arith)
 
 same-length-2 : tie.Need-same-length-2
 same-length-2 c = search needs
@@ -51,7 +53,9 @@ programmable-requires : tie.Need-programmable-requires
 programmable-requires c κs = search needs
 
 mul-burn : tie.Need-mul-burn
-mul-burn c = let h = cell-low (c .before .before .before .before .before .before .before .before .before .before .args .d) (c .before .before .before .before .before .before .before .before .before .before .pre .0) (c .before .before .cell-of .result) _ (c .before .programmable .ensures) (c .if4 .taken) in omega arith
+mul-burn c = let h = cell-low (c .before .before .before .before .before .before .before .before .before .before .args .d)
+    (c .before .before .before .before .before .before .before .before .before .before .pre .0) (c .before .before .cell-of .result) _
+    (c .before .programmable .ensures) (c .if4 .taken) in omega arith
 
 slice-read-burn : tie.Need-slice-read-burn
 slice-read-burn c = search (cell-within, needs)
@@ -60,7 +64,8 @@ rem-burn : tie.Need-rem-burn
 rem-burn c = search (some-row, needs)
 
 mul-burn-2 : tie.Need-mul-burn-2
-mul-burn-2 c = let h = latch-of _ (c .before .before .before .before .before .before .before .before .before .before .before .pre .0) (c .before .before .before .before .before .before .before .before .before .before .before .args .at .0) in omega arith
+mul-burn-2 c = let h = latch-of _ (c .before .before .before .before .before .before .before .before .before .before .before .pre .0)
+    (c .before .before .before .before .before .before .before .before .before .before .before .args .at .0) in omega arith
 
 element-copy-out-burn : tie.Need-element-copy-out-burn
 element-copy-out-burn c = search (latch-of, needs)
@@ -69,7 +74,10 @@ burn-requires : tie.Need-burn-requires
 burn-requires c κs = search needs
 
 mul-cells : tie.Need-mul-cells
-mul-cells c = let h = cell-low (c .before .before .before .before .before .before .before .before .before .before .before .before .before .args .d) (c .before .before .before .before .before .before .before .before .before .before .before .before .before .pre .0) (c .before .before .before .before .before .cell-of .result) _ (c .before .before .before .before .programmable .ensures) (c .before .before .before .if4 .taken) in omega arith
+mul-cells c = let h = cell-low (c .before .before .before .before .before .before .before .before .before .before .before .before .before .args .d)
+    (c .before .before .before .before .before .before .before .before .before .before .before .before .before .pre .0)
+    (c .before .before .before .before .before .cell-of .result) _ (c .before .before .before .before .programmable .ensures)
+    (c .before .before .before .if4 .taken) in omega arith
 
 slice-write-cells : tie.Need-slice-write-cells
 slice-write-cells c = search (cell-within, needs)
