@@ -22,6 +22,8 @@ static void verify(const struct board *b)
         wanted[below((uint32_t)p + 9)] = word();
     if (!below(10))
         wanted[p + 4 + below(3)] = word(); /* never judged */
+    if (below(2))
+        turn_spare_bits(b, wanted); /* nor are these */
     if (!below(40))
         wanted[below((uint32_t)p + 9)] = 0x4000;
     begin(0, 0, 0);

@@ -40,6 +40,15 @@ static size_t put_walk(size_t at, size_t steps)
     return at;
 }
 
+/* Both configuration words, with anything for their spare bits too. */
+static size_t put_configuration(size_t at)
+{
+    at = put_walk(put(at, 0x00, 2u * word()), 7);
+    at = put(put(at, 0x02, below(2) ? 2u * word() : 0), 0x08, 0);
+    at = put_walk(at, 1);
+    return put(put(at, 0x02, below(2) ? 2u * word() : 0), 0x08, 0);
+}
+
 static size_t any_steps(size_t at, size_t steps)
 {
     static const uint8_t codes[10] = {0x00, 0x02, 0x02, 0x04, 0x06, 0x06, 0x08, 0x09, 0x11, 0x16};
@@ -52,6 +61,8 @@ static size_t any_steps(size_t at, size_t steps)
         at = put(at, code, payload);
         if (!below(6))
             at = put_walk(at, below(12));
+        if (!below(40))
+            at = put_configuration(at);
     }
     return at;
 }

@@ -1,4 +1,5 @@
 #include "inputs.h"
+#include "plain_common.h"
 #include "random.h"
 
 size_t about(size_t n)
@@ -16,6 +17,24 @@ size_t some_room(size_t need)
     case 4: return 0;
     default: return need + 40;
     }
+}
+
+void turn_spare_bits(const struct board *b, uint16_t *list)
+{
+    for (size_t k = 7; k < 9; k++)
+        list[b->words + k] ^= spare_bits(&b->device, k) & (below(3) ? word() : 0x3fff);
+}
+
+/* The record's own masks, or others: with few spare bits, about seven, nearly all. */
+static void any_masks(tickmallet_device *d)
+{
+    switch (below(6)) {
+    case 0: d->mask1 = 0x3fff ^ (word() & word() & word()), d->mask2 = 0x3fff ^ (word() & word() & word()); break;
+    case 1:
+    case 2: d->mask1 = word(), d->mask2 = word(); break;
+    case 3: d->mask1 = word() & word() & word(), d->mask2 = word() & word() & word(); break;
+    }
+    d->mask1 |= 0x80;
 }
 
 /* Breaks one rule of a record, or hits a number beside it that keeps them all. */
@@ -51,9 +70,11 @@ static void any_image(struct board *b)
     uint32_t given = below(10); /* of eight words; 0: none, 8 and 9: all */
     for (size_t i = 0; i < p + 9; i++)
         b->image[i] = below(8) < given && !(i >= p + 4 && i < p + 7) ? word() : 0xffff;
-    if (below(2)) /* keep configuration bits, so that an update is not refused with 24 nearly always */
-        for (size_t i = p + 7; i < p + 9; i++)
-            b->image[i] = below(2) ? 0xffff : b->reading[i] & word();
+    if (below(4)) /* keep configuration bits, so that an update is not refused with 24 nearly always; spare bits cannot refuse it */
+        for (size_t k = 7; k < 9; k++) {
+            uint16_t spare = spare_bits(&b->device, k), kept = below(3) ? b->reading[p + k] & word() : b->reading[p + k];
+            b->image[p + k] = below(3) ? (kept & ~spare) | (word() & spare) : 0xffff;
+        }
     if (!below(20))
         b->image[below((uint32_t)p + 9)] = (uint16_t)(below(2) ? 0x4000 : 0x1234);
 }
@@ -61,6 +82,7 @@ static void any_image(struct board *b)
 static void fill_board(struct board *b, const tickmallet_device *sound)
 {
     b->device = *sound;
+    any_masks(&b->device);
     b->words = sound->words;
     any_reading(b);
     any_image(b);

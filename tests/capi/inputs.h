@@ -10,9 +10,12 @@ struct board {
     uint16_t image[MOST_LIST], reading[MOST_LIST]; /* the reading with its two calibration words */
 };
 
-/* A board of at most 96 program words, or one of 8192; one record in twelve breaks a rule. */
+/* A board of at most 96 program words, or one of 8192, with any masks; one record in twelve breaks a rule. */
 void small_board(struct board *b);
 void large_board(struct board *b);
+
+/* Other spare bits in the configuration words of a list of the board. */
+void turn_spare_bits(const struct board *b, uint16_t *list);
 
 /* A length that is right but for one case in twenty. */
 size_t about(size_t n);

@@ -38,4 +38,10 @@ static inline int image_ok(const uint16_t *l, size_t count, size_t words)
     return 1;
 }
 
+/* The spare bits of word 8000h + k: those that its mask has not. Configuration words alone have any. */
+static inline uint16_t spare_bits(const tickmallet_device *d, size_t k)
+{
+    return k == 7 ? ERASED & ~d->mask1 : k == 8 ? ERASED & ~d->mask2 : 0;
+}
+
 #endif

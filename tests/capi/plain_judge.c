@@ -34,15 +34,12 @@ uint8_t plain_verify(const tickmallet_device *device, const uint16_t *wanted, si
     if (!words_ok(wanted, wanted_count, words + 9) || !words_ok(reading, reading_count, words + 9))
         return 21;
     int hidden = !(reading[words + 7] & CP);
-    for (size_t i = hidden ? words : 0; i < words + 9; i++) {
-        if (i == words + 4)
-            i = words + 7;
-        if (wanted[i] != reading[i]) {
-            if (n == 0)
-                first = i;
-            n++;
-        }
-    }
+    for (size_t i = hidden ? words : 0; i < words + 4; i++)
+        if (wanted[i] != reading[i] && n++ == 0)
+            first = i;
+    for (size_t k = 7; k < 9; k++)
+        if (((wanted[words + k] ^ reading[words + k]) & ~spare_bits(device, k)) && n++ == 0)
+            first = words + k;
     if (n == 0)
         return hidden ? 41 : 0;
     *address = (uint16_t)(first < words ? first : BASE + (first - words));

@@ -2,6 +2,7 @@
 #include "plain_common.h"
 
 struct model {
+    const tickmallet_device *device;
     unsigned words, row;
     uint16_t *cells, *read;
     size_t done, room; /* words read, and how many fit */
@@ -39,7 +40,7 @@ static void begin(struct model *m)
                 row[i] &= m->latches[i];
         }
     } else if ((a >= BASE && a < BASE + 4) || a == BASE + 7 || a == BASE + 8) {
-        m->cells[m->words + (a - BASE)] &= m->latches[a % m->row];
+        m->cells[m->words + (a - BASE)] &= m->latches[a % m->row] | spare_bits(m->device, a - BASE);
     }
     fill(m->latches, 32);
 }
@@ -122,7 +123,7 @@ uint8_t plain_run(const tickmallet_device *device, uint16_t *cells, size_t cells
         return 32;
     if (stream_count % 3)
         return 34;
-    struct model m = {device->words, device->row, cells, words, 0, words_count, 0, {0}};
+    struct model m = {device, device->words, device->row, cells, words, 0, words_count, 0, {0}};
     fill(m.latches, 32);
     size_t limit = stream_count / 3 < allowance ? stream_count / 3 : allowance, k = 0;
     int number = 0;

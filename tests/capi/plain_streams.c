@@ -4,6 +4,7 @@
 enum { LOAD_CONFIGURATION = 0x00, LOAD_DATA = 0x02, READ = 0x04, INCREMENT = 0x06, BEGIN = 0x08, BULK_ERASE = 0x09, ROW_ERASE = 0x11, RESET = 0x16 };
 
 struct plan {
+    const tickmallet_device *device;
     const uint16_t *image, *reading; /* no reading: every word is erased */
     size_t words, row;
     int erase, all_ids;
@@ -24,6 +25,13 @@ static int differs(const struct plan *p, size_t i)
     return wanted(p, i) != known(p, i);
 }
 
+/* Word 8000h + k: spare bits are not the image's. */
+static uint16_t wanted_past(const struct plan *p, size_t k)
+{
+    uint16_t spare = spare_bits(p->device, k);
+    return (wanted(p, p->words + k) & ~spare) | (known(p, p->words + k) & spare);
+}
+
 static int row_differs(const struct plan *p, size_t first)
 {
     for (size_t i = first; i < first + p->row; i++)
@@ -37,7 +45,7 @@ static int chosen(const struct plan *p, size_t k)
 {
     if (k >= 4 && k < 7)
         return 0;
-    return (k < 4 && p->all_ids) || differs(p, p->words + k);
+    return (k < 4 && p->all_ids) || wanted_past(p, k) != known(p, p->words + k);
 }
 
 /* The steps of rows and configuration space; the counter is at 0. */
@@ -97,7 +105,7 @@ static uint8_t *put_body(uint8_t *to, const struct plan *p)
         }
         for (; place < k; place++)
             to = put(to, INCREMENT, 0);
-        to = put(to, LOAD_DATA, 2u * wanted(p, p->words + k));
+        to = put(to, LOAD_DATA, 2u * wanted_past(p, k));
         to = put(to, BEGIN, 0);
     }
     return to;
@@ -118,9 +126,9 @@ uint8_t plain_update(const tickmallet_device *device, const uint16_t *image, siz
         return 22;
     if (!(reading[words + 7] & CP))
         return 23;
-    struct plan p = {image, reading, words, device->row, 1, 0};
-    for (size_t i = words + 7; i < words + 9; i++)
-        if (wanted(&p, i) & ~reading[i])
+    struct plan p = {device, image, reading, words, device->row, 1, 0};
+    for (size_t k = 7; k < 9; k++)
+        if (wanted_past(&p, k) & ~reading[words + k])
             return 24;
     for (size_t k = 0; k < 4; k++)
         p.all_ids |= differs(&p, words + k);
@@ -142,7 +150,7 @@ uint8_t plain_fresh(const tickmallet_device *device, const uint16_t *image, size
         return 20;
     if (id_word != device->id)
         return 22;
-    struct plan p = {image, NULL, device->words, device->row, 0, 0};
+    struct plan p = {device, image, NULL, device->words, device->row, 0, 0};
     size_t need = 3 + body_length(&p);
     if (out_count < 3 * need)
         return 26;

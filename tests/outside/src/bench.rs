@@ -58,7 +58,7 @@ pub fn update(table: &[u8], sheet: &[u8], text: &[u8]) -> Printed {
         if let Some(number) = streams::update_refusal(&d, &image, &reading) {
             return Err((number, 0));
         }
-        let wanted = streams::wanted_over(&image, &reading);
+        let wanted = streams::wanted_over(&d, &image, &reading);
         Ok((
             0,
             stream_text(&streams::update_stream(&d, &wanted, &reading)),
@@ -74,7 +74,10 @@ pub fn fresh(table: &[u8], sheet: &[u8], text: &[u8]) -> Printed {
         }
         Ok((
             0,
-            stream_text(&streams::fresh_stream(&d, &streams::wanted_blank(&image))),
+            stream_text(&streams::fresh_stream(
+                &d,
+                &streams::wanted_blank(&d, &image),
+            )),
         ))
     }))
 }
@@ -85,7 +88,10 @@ pub fn wanted(table: &[u8], sheet: &[u8], text: &[u8]) -> Printed {
         let image = hex::image(&d, text, hex::PROGRAM_TEXT_MAX)?;
         match streams::update_refusal(&d, &image, &reading) {
             Some(number) => Err((number, 0)),
-            None => Ok((0, sheet::text(&d, &streams::wanted_over(&image, &reading)))),
+            None => Ok((
+                0,
+                sheet::text(&d, &streams::wanted_over(&d, &image, &reading)),
+            )),
         }
     }))
 }
@@ -98,7 +104,7 @@ pub fn wanted_fresh(table: &[u8], sheet: &[u8], text: &[u8]) -> Printed {
             return Err((22, 0));
         }
         let kept = d.p() + 4..d.p() + 7;
-        let mut wanted = streams::wanted_blank(&image);
+        let mut wanted = streams::wanted_blank(&d, &image);
         wanted[kept.clone()].copy_from_slice(&reading[kept]);
         Ok((0, sheet::text(&d, &wanted)))
     }))

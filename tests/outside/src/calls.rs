@@ -24,7 +24,7 @@ pub struct Call {
 /// What 0 and 1 mean for calls that give no refusal numbers.
 pub const CLASSES: &str =
     "words.*, print.*, next_line, line_from, first_number, third_line: 0 found or done, 1 nothing there (no room); is_words, is_image, is_reading, is_protected, programmable, id_fits: the answer; \
-     plan.wanted: 0 given by the image, 1 not";
+     under_mask: 0 a configuration word, 1 another entry; plan.wanted: 0 given by the image, 1 not";
 
 #[derive(Clone, Debug)]
 pub struct Request {
@@ -504,6 +504,26 @@ pub static CALLS: &[Call] = &[
         own: |f| truth(device_at(f).id == n16(f, D)),
     },
     Call {
+        name: "device.under_mask",
+        kinds: &[
+            Num(16),
+            Num(16),
+            Num(16),
+            Num(16),
+            Num(16),
+            Num(64),
+            Num(16),
+            Num(16),
+        ],
+        classes: &[0, 1],
+        own: |f| {
+            let (d, i) = (device_at(f), field::num(f, D));
+            let past = i.checked_sub(u64::from(d.words));
+            let word = d.under_mask(i as usize, n16(f, D + 1), n16(f, D + 2));
+            reply(u32::from(!matches!(past, Some(7 | 8))), vec![word.into()])
+        },
+    },
+    Call {
         name: "judge.checksum",
         kinds: &[Num(16), Num(16), Num(16), Num(16), Num(16), Words],
         classes: &[0, 13, 21],
@@ -675,7 +695,8 @@ pub static CALLS: &[Call] = &[
         classes: &[0, 1],
         own: |f| {
             let i = field::num(f, D + 2);
-            let (given, word) = streams::wanted_at(field::words(f, D), field::words(f, D + 1), i);
+            let (image, reading) = (field::words(f, D), field::words(f, D + 1));
+            let (given, word) = streams::wanted_at(&device_at(f), image, reading, i);
             reply(u32::from(!given), vec![word.into()])
         },
     },

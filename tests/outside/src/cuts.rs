@@ -7,7 +7,7 @@ use crate::calls::{device_fields, Request};
 use crate::device::Device;
 use crate::field::{parse, Kind};
 use crate::gen::{device_of_size, image_for, lent, lent_words, reading_for};
-use crate::model::{BEGIN, BULK_ERASE, ROW_ERASE};
+use crate::model::{BEGIN, BULK_ERASE, INCREMENT, LOAD_CONFIGURATION, LOAD_DATA, RESET, ROW_ERASE};
 use crate::rng::Rng;
 use crate::streams::{steps_bound, wanted_blank, wanted_over};
 use crate::tally::Tally;
@@ -29,6 +29,8 @@ struct Plan {
     end: Vec<u16>,
     /// Which cells the stream does not speak of.
     kept: Vec<bool>,
+    /// The bits of the cells that no cut of an update may change. Bulk Erase sets them all, so a fresh programming has none.
+    spare: Vec<u16>,
     stream: Vec<u8>,
     /// The cells after each count of steps of an unbroken run.
     after: Vec<Vec<u16>>,
@@ -73,9 +75,9 @@ fn plan(rng: &mut Rng) -> Plan {
     let mut first = reading.clone();
     first.extend([rng.word(), rng.word()]);
     let mut end = if update {
-        wanted_over(&image, &reading)
+        wanted_over(d, &image, &reading)
     } else {
-        wanted_blank(&image)
+        wanted_blank(d, &image)
     };
     end[p + 4..p + 7].copy_from_slice(&reading[p + 4..p + 7]);
     end.extend_from_slice(&first[p + 9..]);
@@ -86,6 +88,9 @@ fn plan(rng: &mut Rng) -> Plan {
             .map(|i| i >= p + 9 || (p + 4..p + 7).contains(&i))
             .collect()
     };
+    let spare = (0..d.cells())
+        .map(|i| if update { d.spare(i) } else { 0 })
+        .collect();
     let room = 3 * steps_bound(d);
     let mut fields = device_fields(d);
     fields.push(image.into());
@@ -99,6 +104,7 @@ fn plan(rng: &mut Rng) -> Plan {
         first,
         end,
         kept,
+        spare,
         stream: Vec::new(),
         after: Vec::new(),
     }
@@ -189,6 +195,48 @@ fn keeps(plan: &Plan, cells: &[u16]) -> bool {
             .all(|((c, f), kept)| !kept || c == f)
 }
 
+/// Whether every spare bit of an update is the first state's.
+fn spares(plan: &Plan, cells: &[u16]) -> bool {
+    cells.len() == plan.first.len()
+        && cells
+            .iter()
+            .zip(&plan.first)
+            .zip(&plan.spare)
+            .all(|((c, f), spare)| (c ^ f) & spare == 0)
+}
+
+/// What must hold of the cells after every cut.
+fn check_cut(plan: &Plan, cells: &[u16], tally: &mut Tally) {
+    tally.check(keeps(plan, cells), || {
+        format!(
+            "a cut changed a word that the stream does not speak of: {:?}",
+            plan.device
+        )
+    });
+    tally.check(spares(plan, cells), || {
+        format!("a cut changed a spare bit: {:?}", plan.device)
+    });
+}
+
+/// The stream with other spare bits in what it loads for 8007h and 8008h: none of them may reach a cell.
+fn turn_spare_loads(d: &Device, stream: &mut [u8], rng: &mut Rng) {
+    let mut counter = 0;
+    for step in stream.chunks_mut(3) {
+        match step[0] {
+            RESET => counter = 0,
+            LOAD_CONFIGURATION => counter = 0x8000,
+            INCREMENT => counter += 1,
+            LOAD_DATA if counter >= 0x8000 => {
+                let spare = d.spare(d.p() + counter - 0x8000);
+                let [low, high] = (2 * (spare & rng.word())).to_le_bytes();
+                step[1] ^= low;
+                step[2] ^= high;
+            }
+            _ => {}
+        }
+    }
+}
+
 /// A step for a later cut: mostly one that can change something.
 fn later_step(plan: &Plan, rng: &mut Rng) -> usize {
     let steps = plan.stream.len() / 3;
@@ -213,6 +261,9 @@ fn unbroken(peer: &Peer, plans: &mut Vec<Plan>, rng: &mut Rng, tally: &mut Tally
     tally.check(ended.is_ok(), || ended.unwrap_err());
     for (plan, stream) in plans.iter_mut().zip(&streams) {
         plan.stream = stream.clone().unwrap_or_default();
+        if rng.chance(30) {
+            turn_spare_loads(&plan.device, &mut plan.stream, rng);
+        }
     }
     // A plan that was refused is a difference already, and there is nothing to run.
     plans.retain(|p| !p.stream.is_empty());
@@ -264,13 +315,7 @@ fn cut_again(
         if let [Some((_, before)), Some((_, after))] = pair {
             let states = cut_states(before, after, rng);
             torn[i].cells = states[rng.below(states.len())].clone();
-            let plan = &plans[torn[i].plan];
-            tally.check(keeps(plan, &torn[i].cells), || {
-                format!(
-                    "a cut run changed a word that it does not speak of: {:?}",
-                    plan.device
-                )
-            });
+            check_cut(&plans[torn[i].plan], &torn[i].cells, tally);
         }
     }
     waiting.len()
@@ -282,12 +327,7 @@ fn first_cuts(plans: &[Plan], rng: &mut Rng, tally: &mut Tally) -> Vec<Torn> {
     for (i, plan) in plans.iter().enumerate() {
         for pair in plan.after.windows(2) {
             for cells in cut_states(&pair[0], &pair[1], rng) {
-                tally.check(keeps(plan, &cells), || {
-                    format!(
-                        "a cut changed a word that the stream does not speak of: {:?}",
-                        plan.device
-                    )
-                });
+                check_cut(plan, &cells, tally);
                 torn.push(Torn {
                     plan: i,
                     cells,
@@ -318,7 +358,8 @@ fn whole_runs(peer: &Peer, plans: &[Plan], torn: &[Torn], rng: &mut Rng, tally: 
         let (steps, cells) = answer.clone().unwrap_or_default();
         let good = steps as usize == plan.stream.len() / 3
             && Some(&cells) == plan.after.last()
-            && keeps(plan, &cells);
+            && keeps(plan, &cells)
+            && spares(plan, &cells);
         tally.check(good, || {
             format!("a run after a cut ends elsewhere: {:?}", plan.device)
         });

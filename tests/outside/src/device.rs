@@ -59,6 +59,27 @@ impl Device {
             && self.words.is_multiple_of(self.row)
     }
 
+    /// The mask of an entry: the record's at the two configuration words, every bit elsewhere.
+    pub fn mask(&self, entry: usize) -> u16 {
+        match entry.checked_sub(self.p()) {
+            Some(7) => self.mask1,
+            Some(8) => self.mask2,
+            _ => WORD_MAX,
+        }
+    }
+
+    /// The spare bits of an entry: those of a word that its mask has not.
+    pub fn spare(&self, entry: usize) -> u16 {
+        WORD_MAX & !self.mask(entry)
+    }
+
+    /// New bits under the mask of an entry, old ones in its spare bits. Nothing is judged, so numbers may have more than 14
+    /// bits: those above are the new one's, and no mask's.
+    pub fn under_mask(&self, entry: usize, new: u16, old: u16) -> u16 {
+        let spare = self.spare(entry);
+        (new & !spare) | (old & spare)
+    }
+
     /// Whether a list is a reading of this device.
     pub fn is_reading(&self, list: &[u16]) -> bool {
         is_reading(self.p(), list)

@@ -24,7 +24,7 @@ pub fn checksum(d: &Device, reading: &[u16]) -> Result<u16, u32> {
     Ok((sum % 65_536) as u16)
 }
 
-/// Number, first differing word address and how many differ: 13, 21.
+/// Number, first differing word address and how many differ, spare bits apart: 13, 21.
 pub fn verify(d: &Device, wanted: &[u16], reading: &[u16]) -> (u32, u16, usize) {
     if !d.lawful() {
         return (13, 0, 0);
@@ -41,7 +41,7 @@ pub fn verify(d: &Device, wanted: &[u16], reading: &[u16]) -> (u32, u16, usize) 
     places.extend([0usize, 1, 2, 3, 7, 8].map(|k| (p + k, CONFIG + k as u16)));
     let differing: Vec<u16> = places
         .iter()
-        .filter(|(i, _)| wanted[*i] != reading[*i])
+        .filter(|(i, _)| (wanted[*i] ^ reading[*i]) & d.mask(*i) != 0)
         .map(|&(_, address)| address)
         .collect();
     match differing.first() {

@@ -64,7 +64,10 @@ fn begin(d: &Device, registers: &mut Registers, cells: &mut [u16]) {
     match counter {
         0x8000..=0x8003 | 0x8007 | 0x8008 => {
             let latch = registers.latches[usize::from(counter) % d.r()];
-            cells[p + usize::from(counter - 0x8000)] &= latch;
+            let i = p + usize::from(counter - 0x8000);
+            // Only a bit that is there goes to 0.
+            let cleared = d.mask(i) & !latch;
+            cells[i] &= !cleared;
         }
         _ => {
             if let Some(first) = row(d, counter).filter(|_| !d.protected(cells)) {
@@ -77,6 +80,7 @@ fn begin(d: &Device, registers: &mut Registers, cells: &mut [u16]) {
     registers.latches = [WORD_MAX; LATCHES];
 }
 
+/// No configuration write: it sets spare bits too.
 fn bulk_erase(d: &Device, counter: u16, cells: &mut [u16]) {
     let p = d.p();
     cells[..p].fill(WORD_MAX);

@@ -77,26 +77,37 @@ impl Writer {
     }
 }
 
-/// Wanted of an update: the reading where the image is silent; 8004h to 8006h are never given.
-pub fn wanted_over(image: &[u16], reading: &[u16]) -> Vec<u16> {
+/// Wanted of one entry: what was there where the image is silent, and in the spare bits of what it gives.
+fn wanted_word(d: &Device, entry: usize, image: u16, before: u16) -> u16 {
+    if image == NOT_GIVEN {
+        before
+    } else {
+        d.under_mask(entry, image, before)
+    }
+}
+
+/// Wanted of an update: over the reading; 8004h to 8006h are never given.
+pub fn wanted_over(d: &Device, image: &[u16], reading: &[u16]) -> Vec<u16> {
     image
         .iter()
         .zip(reading)
-        .map(|(&i, &r)| if i == NOT_GIVEN { r } else { i })
+        .enumerate()
+        .map(|(i, (&new, &old))| wanted_word(d, i, new, old))
         .collect()
 }
 
-/// Wanted of a fresh programming: 3FFFh where the image is silent.
-pub fn wanted_blank(image: &[u16]) -> Vec<u16> {
-    wanted_over(image, &vec![WORD_MAX; image.len()])
+/// Wanted of a fresh programming: over 3FFFh.
+pub fn wanted_blank(d: &Device, image: &[u16]) -> Vec<u16> {
+    wanted_over(d, image, &vec![WORD_MAX; image.len()])
 }
 
-/// The word that the image gives for an entry, or else the reading's; 3FFFh past the reading's end.
-pub fn wanted_at(image: &[u16], reading: &[u16], i: u64) -> (bool, u16) {
+/// Whether the image gives an entry, and what is wanted there; 3FFFh past the reading's end.
+pub fn wanted_at(d: &Device, image: &[u16], reading: &[u16], i: u64) -> (bool, u16) {
     let at = |list: &[u16]| usize::try_from(i).ok().and_then(|i| list.get(i).copied());
+    let before = at(reading).unwrap_or(WORD_MAX);
     match at(image).filter(|&entry| entry != NOT_GIVEN) {
-        Some(given) => (true, given),
-        None => (false, at(reading).unwrap_or(WORD_MAX)),
+        Some(given) => (true, wanted_word(d, i as usize, given, before)),
+        None => (false, before),
     }
 }
 
@@ -180,7 +191,7 @@ pub fn update_refusal(d: &Device, image: &[u16], reading: &[u16]) -> Option<u32>
     if d.protected(reading) {
         return Some(23);
     }
-    let wanted = wanted_over(image, reading);
+    let wanted = wanted_over(d, image, reading);
     let raised = |k: usize| wanted[p + k] & !reading[p + k] != 0;
     CONFIGURATION.into_iter().any(raised).then_some(24)
 }
@@ -208,10 +219,8 @@ pub fn update(d: &Device, image: &[u16], reading: &[u16], out: &mut [u8]) -> (u3
     if let Some(number) = update_refusal(d, image, reading) {
         return (number, 0);
     }
-    put(
-        &update_stream(d, &wanted_over(image, reading), reading),
-        out,
-    )
+    let wanted = wanted_over(d, image, reading);
+    put(&update_stream(d, &wanted, reading), out)
 }
 
 /// The fresh programming as a call: 13, 20, 22, 26.
@@ -225,7 +234,7 @@ pub fn fresh(d: &Device, image: &[u16], id_word: u16, out: &mut [u8]) -> (u32, u
     if id_word != d.id {
         return (22, 0);
     }
-    put(&fresh_stream(d, &wanted_blank(image)), out)
+    put(&fresh_stream(d, &wanted_blank(d, image)), out)
 }
 
 /// The read-back as a call: 13, 26.

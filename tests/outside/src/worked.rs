@@ -231,6 +231,215 @@ fn latch_case() -> Case {
     )
 }
 
+/// TINY's blank board, but for some words.
+fn tiny_board(others: &[(usize, u16)]) -> Vec<u16> {
+    let mut board = reading(&TINY, WORD_MAX, &[(16 + 5, 0x2000), (16 + 6, 0x2A00)]);
+    for &(entry, word) in others {
+        board[entry] = word;
+    }
+    board
+}
+
+/// An image of TINY that gives one word.
+fn gives(entry: usize, word: u16) -> Vec<u16> {
+    let mut image = vec![NOT_GIVEN; TINY.entries()];
+    image[entry] = word;
+    image
+}
+
+/// A stream planned, with its steps as code and payload, or refused.
+fn plan_case(what: &str, name: &str, rest: Vec<Field>, plan: Result<&[(u8, u16)], u32>) -> Case {
+    let lent: Vec<u8> = (100..200u8).collect();
+    let mut out = lent.clone();
+    for (k, &(code, payload)) in plan.unwrap_or_default().iter().enumerate() {
+        out[3 * k] = code;
+        out[3 * k + 1..3 * k + 3].copy_from_slice(&payload.to_le_bytes());
+    }
+    let mut fields = rest;
+    fields.push(lent.into());
+    let steps = plan.map_or(0, <[(u8, u16)]>::len);
+    let expected = vec![number(plan.err().unwrap_or(0)), steps.into(), out.into()];
+    case(what, name, Some(&TINY), fields, expected)
+}
+
+/// The steps that write 8007h of TINY alone, after Reset.
+fn write_8007(payload: u16) -> Vec<(u8, u16)> {
+    let mut steps = vec![(0x16, 0), (0x00, 0x7FFE)];
+    steps.extend([(0x06, 0); 7]);
+    steps.extend([(0x02, payload), (0x08, 0)]);
+    steps
+}
+
+/// Begin at an address of blank TINY with every latch 0000h: one cell changes.
+fn begin_case(address: u16, cell: u16) -> Case {
+    let cells = vec![WORD_MAX; TINY.cells()];
+    let mut after = cells.clone();
+    after[16 + usize::from(address - 0x8000)] = cell;
+    let lent: Vec<u16> = vec![0x5A5A];
+    case(
+        &format!("Begin at {address:04X}h"),
+        "target.step",
+        Some(&TINY),
+        vec![
+            address.into(),
+            vec![0u16; 32].into(),
+            number(0x08),
+            number(0),
+            lent.clone().into(),
+            cells.into(),
+        ],
+        vec![
+            number(0),
+            address.into(),
+            vec![WORD_MAX; 32].into(),
+            lent.into(),
+            after.into(),
+        ],
+    )
+}
+
+/// A reading of TINY against a wanted one.
+fn verify_case(what: &str, wanted: Vec<u16>, reading: Vec<u16>, verdict: (u32, u16, u32)) -> Case {
+    let (n, address, count) = verdict;
+    case(
+        what,
+        "judge.verify",
+        Some(&TINY),
+        vec![wanted.into(), reading.into()],
+        vec![number(n), address.into(), number(count)],
+    )
+}
+
+/// What is wanted at an entry, nothing judged.
+fn wanted_case(what: &str, d: &Device, new: u16, old: Option<u16>, at: usize, word: u16) -> Case {
+    let mut image = vec![NOT_GIVEN; at + 1];
+    image[at] = new;
+    let mut reading = vec![0x1555; at];
+    reading.extend(old);
+    case(
+        what,
+        "plan.wanted",
+        Some(d),
+        vec![image.into(), reading.into(), at.into()],
+        vec![word.into()],
+    )
+}
+
+/// New bits under the mask of an entry, old ones elsewhere.
+fn under_case(d: &Device, at: u64, new: u16, old: u16, word: u16) -> Case {
+    case(
+        &format!("{new:04X}h over {old:04X}h at entry {at}"),
+        "device.under_mask",
+        Some(d),
+        vec![at.into(), new.into(), old.into()],
+        vec![word.into()],
+    )
+}
+
+/// Spare configuration bits: TINY has bit 8 of 8007h, bits 2 and 3 of 8008h.
+fn spare_cases() -> Vec<Case> {
+    let (one, two) = (16 + 7, 16 + 8);
+    let update = |what, new, old, plan| {
+        let rest = vec![gives(one, new).into(), tiny_board(&[(one, old)]).into()];
+        plan_case(what, "plan.update", rest, plan)
+    };
+    let fresh = |what, new, plan| {
+        let rest = vec![gives(two, new).into(), number(0x2A00)];
+        plan_case(what, "plan.fresh", rest, Ok(plan))
+    };
+    let reset: &[(u8, u16)] = &[(0x16, 0)];
+    let erased: &[(u8, u16)] = &[(0x00, 0x7FFE), (0x09, 0), (0x16, 0)];
+    let mut written = erased.to_vec();
+    written.push((0x00, 0x7FFE));
+    written.extend([(0x06, 0); 8]);
+    written.extend([(0x02, 0x0018), (0x08, 0)]);
+    let above = Device {
+        mask1: 0xC0FF,
+        ..TINY
+    };
+    vec![
+        update(
+            "8007h wanted 3E7Fh: the spare bit is the reading's",
+            0x3E7F,
+            0x3FFF,
+            Ok(&write_8007(0x7EFE)),
+        ),
+        update(
+            "8007h differs in a spare bit alone: not written",
+            0x3EFF,
+            0x3FFF,
+            Ok(reset),
+        ),
+        update(
+            "a spare bit wanted 1 that reads 0 is not 24",
+            0x3FFF,
+            0x3EFF,
+            Ok(reset),
+        ),
+        update(
+            "a bit under the mask wanted 1 that reads 0 is 24",
+            0x3FFF,
+            0x3DFF,
+            Err(24),
+        ),
+        update(
+            "8007h wanted 3F7Fh: the spare bit stays 0",
+            0x3F7F,
+            0x3EFF,
+            Ok(&write_8007(0x7CFE)),
+        ),
+        fresh("8008h wanted 0000h: its spare bits are ones", 0, &written),
+        fresh("8008h wanted 3FF3h: blank already", 0x3FF3, erased),
+        begin_case(0x8007, 0x0100),
+        begin_case(0x8008, 0x000C),
+        begin_case(0x8000, 0x0000),
+        verify_case(
+            "8007h differs in a spare bit alone",
+            tiny_board(&[]),
+            tiny_board(&[(one, 0x3EFF)]),
+            (0, 0, 0),
+        ),
+        verify_case(
+            "8007h differs under its mask",
+            tiny_board(&[]),
+            tiny_board(&[(one, 0x3DFF)]),
+            (40, 0x8007, 1),
+        ),
+        verify_case(
+            "of three words that differ one counts",
+            tiny_board(&[]),
+            tiny_board(&[(3, 0x3FFE), (one, 0x3EFF), (two, 0x3FF3)]),
+            (40, 0x0003, 1),
+        ),
+        wanted_case("over a reading", &TINY, 0x3E7F, Some(0x3FFF), one, 0x3F7F),
+        wanted_case("past a reading", &TINY, 0x0000, None, two, 0x000C),
+        wanted_case("an ID", &TINY, 0x0000, Some(0x3FFF), 16 + 3, 0x0000),
+        wanted_case(
+            "bits 14 and 15 are the image's",
+            &TINY,
+            0x8000,
+            Some(0x7FFF),
+            two,
+            0x800C,
+        ),
+        wanted_case(
+            "a mask's high bits have no say",
+            &above,
+            0x4000,
+            Some(0xFFFF),
+            one,
+            0x7F00,
+        ),
+        under_case(&TINY, 23, 0x0000, 0x3FFF, 0x0100),
+        under_case(&TINY, 24, 0x0000, 0x3FFF, 0x000C),
+        under_case(&TINY, 24, 0x3FFF, 0x0000, 0x3FF3),
+        under_case(&TINY, 22, 0x0000, 0x3FFF, 0x0000),
+        under_case(&TINY, 25, 0xFFFF, 0x0000, 0xFFFF),
+        under_case(&TINY, 23 + (1 << 32), 0x0000, 0x3FFF, 0x0000),
+        under_case(&above, 23, 0x4000, 0xFFFF, 0x7F00),
+    ]
+}
+
 fn bench_case(what: &str, name: &str, files: &[&[u8]], text: &str) -> Case {
     let lent: Vec<u8> = (0..text.len() + 7).map(|i| i as u8 ^ 0xA5).collect();
     let mut out = lent.clone();
@@ -265,6 +474,7 @@ fn bench_cases() -> Vec<Case> {
     let protected =
         String::from_utf8_lossy(board).replace("2A00\t3FFF\t3FFF\n", "2A00\t3F7F\t3FFF\n");
     let protected = protected.as_bytes();
+    let spare = String::from_utf8_lossy(board).replace("2A00\t3FFF\t3FFF\n", "2A00\t3EFF\t3FF3\n");
     let written = String::from_utf8_lossy(protected).to_string();
     let came_back = "3FFF\n".repeat(21) + "2000\n2A00\n3FFF\n3FFF\n";
     let dump = ":10000000FF3FFF3FFF3FFF3FFF3FFF3FFF3FFF3F00\n\
@@ -276,6 +486,18 @@ fn bench_cases() -> Vec<Case> {
             "bench.update",
             &[TINY_LINE, board, hex],
             LISTING,
+        ),
+        bench_case(
+            "the listing by a file with a spare bit of 0",
+            "bench.update",
+            &[TINY_LINE, board, one_word(1, 0x000E, 0x3E7F).as_bytes()],
+            LISTING,
+        ),
+        bench_case(
+            "a spare bit alone",
+            "bench.update",
+            &[TINY_LINE, board, one_word(1, 0x000E, 0x3EFF).as_bytes()],
+            "16\t0000\n",
         ),
         bench_case(
             "no table",
@@ -338,6 +560,12 @@ fn bench_cases() -> Vec<Case> {
             "40\t0009\t3\n",
         ),
         bench_case(
+            "a spare bit differs",
+            "bench.verify",
+            &[TINY_LINE, spare.as_bytes(), board],
+            "0\n",
+        ),
+        bench_case(
             "protected",
             "bench.verify",
             &[TINY_LINE, protected, protected],
@@ -347,6 +575,12 @@ fn bench_cases() -> Vec<Case> {
             "the listing played",
             "bench.trial",
             &[TINY_LINE, board, LISTING.as_bytes()],
+            &written,
+        ),
+        bench_case(
+            "the listing with a spare bit of 0 played",
+            "bench.trial",
+            &[TINY_LINE, board, LISTING.replace("7EFE", "7CFE").as_bytes()],
             &written,
         ),
         bench_case(
@@ -387,6 +621,7 @@ fn cases() -> Vec<Case> {
     let mut all = hex_cases();
     all.extend(checksum_cases());
     all.extend([row_case(0), row_case(1), latch_case()]);
+    all.extend(spare_cases());
     all.extend(bench_cases());
     let table: Vec<u8> = b"PIC16F1459\t3023\t8192\t32\t3EFF\t3FF3\n".to_vec();
     let mut found = vec![number(0)];
@@ -521,7 +756,7 @@ fn update_trip(d: &Device, board: &[u16], image: &[u16], tally: &mut Tally) {
         tally.check(false, || format!("a sound update is refused with {n}"));
         return;
     }
-    let wanted = streams::wanted_over(image, board);
+    let wanted = streams::wanted_over(d, image, board);
     let stream = streams::update_stream(d, &wanted, board);
     tally.check(stream.len() / 3 <= streams::steps_bound(d), || {
         "too many steps".to_string()
@@ -535,6 +770,21 @@ fn update_trip(d: &Device, board: &[u16], image: &[u16], tally: &mut Tally) {
         format!("an update does not end in what is wanted: {d:?}")
     });
     let unprotected = !d.protected(&after);
+    // A good board verifies against what the file says, all 14 bits of it.
+    let said: Vec<u16> = (0..d.entries())
+        .map(|i| {
+            if image[i] == NOT_GIVEN {
+                board[i]
+            } else {
+                image[i]
+            }
+        })
+        .collect();
+    let verdict = judge::verify(d, &said, &after[..d.entries()]);
+    let good = (if unprotected { 0 } else { 41 }, 0, 0);
+    tally.check(verdict == good, || {
+        format!("an updated board fails verify: {d:?}, {verdict:?}")
+    });
     let back = streams::read_back_stream(d);
     tally.check(back.len() / 3 == 2 * d.p() + 18, || {
         "read-back's steps".to_string()
@@ -550,7 +800,7 @@ fn update_trip(d: &Device, board: &[u16], image: &[u16], tally: &mut Tally) {
 fn fresh_trip(d: &Device, image: &[u16], rng: &mut Rng, tally: &mut Tally) {
     let mut cells = reading_for(d, rng.chance(50), rng);
     cells.extend([rng.word(), rng.word()]);
-    let wanted = streams::wanted_blank(image);
+    let wanted = streams::wanted_blank(d, image);
     let stream = streams::fresh_stream(d, &wanted);
     tally.check(stream.len() / 3 <= streams::steps_bound(d), || {
         "too many steps".to_string()
@@ -585,7 +835,7 @@ fn rehearsal_trip(d: &Device, board: &[u16], image: &[u16], tally: &mut Tally) {
 
 /// A run with an allowance is entry and that many single steps.
 fn steps_trip(d: &Device, board: &[u16], image: &[u16], rng: &mut Rng, tally: &mut Tally) {
-    let stream = streams::update_stream(d, &streams::wanted_over(image, board), board);
+    let stream = streams::update_stream(d, &streams::wanted_over(d, image, board), board);
     let allowance = rng.below(stream.len() / 3 + 1);
     let mut cells = board.to_vec();
     cells.extend([WORD_MAX; 2]);

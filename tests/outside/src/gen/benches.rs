@@ -1,8 +1,8 @@
 //! Inputs for what the programs print, and for the boards that they open.
 
 use super::boards::{
-    also, any_device, bad_first_line, bad_sheet, bad_table, image_for, reading_for, table_with,
-    table_without,
+    also, any_device, bad_first_line, bad_sheet, bad_table, image_for, other_bit, other_spare,
+    reading_for, table_with, table_without,
 };
 use super::plans::{bad_step, put_in, sound_stream, want_a_bit};
 use super::{hexes, lent, number, room};
@@ -148,13 +148,18 @@ fn wanted_file(d: &Device, reading: &[u16], aim: u32, rng: &mut Rng) -> Vec<u8> 
     if aim == 40 {
         for _ in 0..rng.pick(&[1, 1, 3, 30]) {
             let judged = if d.protected(reading) { p } else { 0 };
-            let at = if rng.chance(40) {
+            let at = if rng.chance(20) {
+                p + 8
+            } else if rng.chance(40) {
                 p + rng.pick(&[0, 1, 2, 3, 7, 8])
             } else {
                 rng.below(p).max(judged)
             };
-            wanted[at] ^= 1 << rng.below(14);
+            other_bit(d, &mut wanted, at, rng);
         }
+    }
+    if rng.chance(60) {
+        other_spare(d, &mut wanted, rng);
     }
     let text = sheet::text(d, &wanted);
     if aim == 14 && rng.chance(50) {

@@ -8,18 +8,28 @@ use crate::rng::Rng;
 use crate::sheet as own;
 use crate::words::{NOT_GIVEN, WORD_MAX};
 
+/// A mask: the family's, or one far from it, with any number of spare bits.
+fn mask(family: u16, rng: &mut Rng) -> u16 {
+    match rng.below(10) {
+        0..=2 => family,
+        3..=6 => rng.word(),
+        7 => rng.word() & rng.word() & rng.word(),
+        8 => rng.word() | rng.word() | rng.word(),
+        _ => rng.pick(&[0, WORD_MAX]),
+    }
+}
+
 /// A lawful device with at most so many rows; `rows` is not 0.
 pub fn device_of_size(rows: usize, rng: &mut Rng) -> Device {
     let row = rng.pick(&[8u16, 16, 32]);
     let most = rows.min(8_192 / usize::from(row));
     let words = row * rng.between(1, most) as u16;
-    let family = rng.chance(50);
     Device {
         id: rng.word(),
         words,
         row,
-        mask1: if family { 0x3EFF } else { rng.word() | CP },
-        mask2: if family { 0x3FF3 } else { rng.word() },
+        mask1: mask(0x3EFF, rng) | CP,
+        mask2: mask(0x3FF3, rng),
     }
 }
 
@@ -91,16 +101,50 @@ pub fn image_for(d: &Device, reading: &[u16], rng: &mut Rng) -> Vec<u16> {
             () => rng.word(),
         })
         .collect();
-    // Configuration words that an update may want: no bit set that the reading has not.
-    for k in [7, 8] {
-        image[p + k] = match rng.below(4) {
-            0 => NOT_GIVEN,
-            1 => reading[p + k],
-            _ => reading[p + k] & rng.word(),
+    // Configuration words that an update may want: under the mask no bit set that the reading has not, and spare bits as they come.
+    for i in [p + 7, p + 8] {
+        let spare = d.spare(i);
+        let kept = match rng.below(6) {
+            0 => {
+                image[i] = NOT_GIVEN;
+                continue;
+            }
+            1 | 2 => reading[i],
+            _ => reading[i] & rng.word(),
         };
+        image[i] = (kept & !spare) | (spare_bits(reading[i], rng) & spare);
     }
     image[p + 4..p + 7].fill(NOT_GIVEN);
     image
+}
+
+/// Spare bits over those of a word: its own, the opposite, all of one kind, or any.
+fn spare_bits(word: u16, rng: &mut Rng) -> u16 {
+    match rng.below(6) {
+        0 => word,
+        1 => !word,
+        2 => 0,
+        3 => WORD_MAX,
+        _ => rng.word(),
+    }
+}
+
+/// Other spare bits in the configuration words: no difference that counts.
+pub fn other_spare(d: &Device, list: &mut [u16], rng: &mut Rng) {
+    for i in [d.p() + 7, d.p() + 8] {
+        list[i] = (list[i] & !d.spare(i)) | (spare_bits(list[i], rng) & d.spare(i));
+    }
+}
+
+/// One bit turned in a word that is judged: a difference that counts. Nothing where the mask has no bit.
+pub fn other_bit(d: &Device, list: &mut [u16], at: usize, rng: &mut Rng) {
+    let bits: Vec<u16> = (0..14)
+        .map(|k| 1 << k)
+        .filter(|bit| d.mask(at) & bit != 0)
+        .collect();
+    if !bits.is_empty() {
+        list[at] ^= rng.pick(&bits);
+    }
 }
 
 /// The image with something that no image has.
@@ -326,6 +370,7 @@ pub fn device(name: &str, aim: u32, rng: &mut Rng) -> Vec<Field> {
             let (words, i) = place(&d, aim == 1, rng);
             vec![words.into(), i.into()]
         }
+        "under_mask" => under_mask(&d, aim == 1, rng),
         "id_fits" => {
             let mut fields = device_fields(&d);
             fields.push(if aim == 1 { d.id } else { other_id(&d, rng) }.into());
@@ -333,6 +378,35 @@ pub fn device(name: &str, aim: u32, rng: &mut Rng) -> Vec<Field> {
         }
         _ => is_image(aim == 1, rng),
     }
+}
+
+/// A configuration word's entry, or another one, with any masks and any numbers; often they are words.
+fn under_mask(d: &Device, elsewhere: bool, rng: &mut Rng) -> Vec<Field> {
+    let mut d = *d;
+    if rng.chance(30) {
+        d.words = number(16, rng) as u16;
+    }
+    if rng.chance(30) {
+        (d.mask1, d.mask2) = (rng.u16(), rng.u16());
+    }
+    let p = u64::from(d.words);
+    let i = match rng.below(4) {
+        _ if !elsewhere => p + rng.pick(&[7, 8]),
+        0 => p + rng.pick(&[0, 3, 6, 9, 10]),
+        1 => rng.below(d.p() + 7) as u64,
+        // P+7 or P+8 again after 16 or 32 bits.
+        2 => p + rng.pick(&[7, 8]) + (1 << rng.pick(&[16, 32])),
+        _ => p + 9 + (number(64, rng) >> 1),
+    };
+    let (new, old) = match rng.below(4) {
+        0 => (0, WORD_MAX),
+        1 => (WORD_MAX, 0),
+        2 => (rng.word(), rng.word()),
+        _ => (rng.u16(), rng.u16()),
+    };
+    let mut fields = device_fields(&d);
+    fields.extend([i.into(), new.into(), old.into()]);
+    fields
 }
 
 /// A number other than the record's ID, at times one that another field has or that differs in one bit.
@@ -438,13 +512,20 @@ pub fn judge(name: &str, aim: u32, rng: &mut Rng) -> Vec<Field> {
     if aim == 40 {
         let count = rng.pick(&[1, 1, 2, 5, p]);
         for _ in 0..count {
-            let at = if protected || rng.chance(30) {
+            let at = if count == 1 && rng.chance(30) {
+                // The last of all, so that nothing stands behind what only seems to differ before it.
+                p + 8
+            } else if protected || rng.chance(30) {
                 p + rng.pick(&[0, 1, 2, 3, 7, 8])
             } else {
                 rng.below(p)
             };
-            wanted[at] ^= 1 << rng.below(14);
+            other_bit(&d, &mut wanted, at, rng);
         }
+    }
+    // Beside differences that count, and where there are none.
+    if rng.chance(60) {
+        other_spare(&d, &mut wanted, rng);
     }
     if spoilt {
         if rng.chance(50) {

@@ -84,7 +84,11 @@ fn step(aim: u32, rng: &mut Rng) -> Vec<Field> {
     let mut latches: Vec<u16> = (0..32)
         .map(|k| if k < d.r() { rng.word() } else { rng.u16() })
         .collect();
-    let mut code = rng.pick(&CODES);
+    let mut code = if rng.chance(30) {
+        BEGIN
+    } else {
+        rng.pick(&CODES)
+    };
     let mut at = counter(&d, rng);
     match aim {
         30 => code = unknown_code(rng),
@@ -106,6 +110,22 @@ fn step(aim: u32, rng: &mut Rng) -> Vec<Field> {
     }
     if code == INCREMENT && rng.chance(30) {
         at = rng.pick(&[0x7FFE, 0x7FFF, 0x8000, 0xFFFE, 0xFFFF]);
+    }
+    if code == BEGIN && rng.chance(50) {
+        // A user ID or a configuration word; the latch has zeros where the mask has ones, where it has none, or anywhere.
+        let k = rng.pick(&[0, 1, 2, 3, 7, 7, 7, 8, 8, 8]);
+        let mask = d.mask(d.p() + k);
+        at = 0x8000 + k as u16;
+        latches[k % d.r()] = match rng.below(6) {
+            0 => 0,
+            1 => mask,
+            2 => WORD_MAX & !mask,
+            3 => mask & rng.word(),
+            _ => rng.word(),
+        };
+        if rng.chance(50) {
+            cells[d.p() + k] = WORD_MAX;
+        }
     }
     let payload = if aim == 31 || also(aim, &[13, 32, 30], rng) {
         bad_payload(code, rng)
@@ -143,14 +163,44 @@ fn push(stream: &mut Vec<u8>, code: u8, payload: u16) {
     stream.extend(payload.to_le_bytes());
 }
 
+/// Words of configuration space written with anything, spare bits too, and read; an erase before it or within.
+fn configuration_stream(rng: &mut Rng) -> Vec<u8> {
+    let mut stream = Vec::new();
+    let load = |code: u8, stream: &mut Vec<u8>, rng: &mut Rng| {
+        let payload = good_payload(code, rng);
+        push(stream, code, rng.pick(&[0, payload]));
+    };
+    for _ in 0..rng.between(1, 3) {
+        load(LOAD_CONFIGURATION, &mut stream, rng);
+        if rng.chance(40) {
+            push(&mut stream, rng.pick(&[BULK_ERASE, ROW_ERASE]), 0);
+        }
+        for k in 0..=8 {
+            // What is not loaded is what its latch has: 3FFFh, or an earlier load.
+            if rng.chance(60) {
+                load(LOAD_DATA, &mut stream, rng);
+            }
+            if rng.chance(if k < 7 { 30 } else { 70 }) {
+                push(&mut stream, BEGIN, 0);
+            }
+            if rng.chance(20) {
+                push(&mut stream, READ, 0);
+            }
+            push(&mut stream, INCREMENT, 0);
+        }
+    }
+    stream
+}
+
 /// A stream of sound steps: a planned one, or steps at random that get about in the target.
 pub fn sound_stream(d: &Device, rng: &mut Rng) -> Vec<u8> {
     let reading = reading_for(d, false, rng);
     let image = image_for(d, &reading, rng);
     match rng.below(8) {
-        0 => return own::update_stream(d, &own::wanted_over(&image, &reading), &reading),
-        1 => return own::fresh_stream(d, &own::wanted_blank(&image)),
+        0 => return own::update_stream(d, &own::wanted_over(d, &image, &reading), &reading),
+        1 => return own::fresh_stream(d, &own::wanted_blank(d, &image)),
         2 => return own::read_back_stream(d),
+        3 => return configuration_stream(rng),
         _ => {}
     }
     let mut stream = Vec::new();
@@ -283,19 +333,31 @@ pub fn target(name: &str, aim: u32, rng: &mut Rng) -> Vec<Field> {
     }
 }
 
-/// Makes the image want a configuration bit that the reading has not.
+/// Makes the image want a configuration bit under the mask that the reading has not; CP apart, whose 0 is 23.
 pub fn want_a_bit(d: &Device, image: &mut [u16], reading: &mut [u16], rng: &mut Rng) {
-    let at = d.p() + rng.pick(&[7, 8]);
-    let bit = 1 << rng.pick(&[0, 1, 6, 8, 9, 12, 13]);
+    let p = d.p();
+    let bits: Vec<(usize, u16)> = [p + 7, p + 8]
+        .into_iter()
+        .flat_map(|i| (0..14).map(move |k| (i, 1 << k)))
+        .filter(|&(i, bit)| d.mask(i) & bit != 0 && (i, bit) != (p + 7, CP))
+        .collect();
+    // A record whose masks have CP alone never gives 24.
+    if bits.is_empty() {
+        return;
+    }
+    let (at, bit) = rng.pick(&bits);
     reading[at] &= !bit;
     image[at] = (reading[at] & if rng.chance(50) { rng.word() } else { WORD_MAX }) | bit;
+    if rng.chance(50) {
+        image[at] ^= d.spare(at) & rng.word();
+    }
 }
 
 fn update(aim: u32, rng: &mut Rng) -> Vec<Field> {
     let d = any_device(rng);
     let mut reading = reading_for(&d, false, rng);
     let mut image = image_for(&d, &reading, rng);
-    let needed = own::update_stream(&d, &own::wanted_over(&image, &reading), &reading).len();
+    let needed = own::update_stream(&d, &own::wanted_over(&d, &image, &reading), &reading).len();
     let short = aim == 26 || also(aim, &[13, 20, 21, 22, 23, 24], rng);
     let length = room(needed, short, rng);
     if aim == 24 || also(aim, &[13, 20, 21, 22, 23], rng) {
@@ -322,7 +384,7 @@ fn fresh(aim: u32, rng: &mut Rng) -> Vec<Field> {
     let d = any_device(rng);
     let reading = reading_for(&d, rng.chance(50), rng);
     let mut image = image_for(&d, &reading, rng);
-    let needed = own::fresh_stream(&d, &own::wanted_blank(&image)).len();
+    let needed = own::fresh_stream(&d, &own::wanted_blank(&d, &image)).len();
     let short = aim == 26 || also(aim, &[13, 20, 22], rng);
     let length = room(needed, short, rng);
     let mut id_word = d.id;
@@ -341,14 +403,26 @@ fn fresh(aim: u32, rng: &mut Rng) -> Vec<Field> {
     fields
 }
 
-/// An entry that the image gives, or one that it does not, also past either list's end; an unsound entry is taken as it stands.
+/// An entry that the image gives, or one that it does not, also past either list's end. Nothing is judged: entries and masks may have
+/// more bits than a word, and the record may have other program words than the lists.
 fn wanted(aim: u32, rng: &mut Rng) -> Vec<Field> {
     let mut d = any_device(rng);
     let mut reading = reading_for(&d, rng.chance(30), rng);
     let mut image = image_for(&d, &reading, rng);
-    let mut at = rng.below(image.len());
+    let mut at = if rng.chance(50) {
+        d.p() + rng.pick(&[6, 7, 7, 7, 8, 8, 8])
+    } else {
+        rng.below(image.len())
+    };
+    if rng.chance(30) {
+        (d.mask1, d.mask2) = (rng.u16(), rng.u16());
+    }
     if rng.chance(20) {
         spoil_image(&d, &mut image, rng);
+    }
+    if rng.chance(30) {
+        let i = rng.below(reading.len());
+        reading[rng.pick(&[i, at])] = rng.u16();
     }
     if rng.chance(30) {
         let length = rng.below(reading.len() + 1);
@@ -361,9 +435,14 @@ fn wanted(aim: u32, rng: &mut Rng) -> Vec<Field> {
     }
     if aim == 0 {
         at %= image.len().max(1);
+        let given = match rng.below(4) {
+            0 => rng.u16() & 0xFFFE,
+            1 => rng.pick(&[0, WORD_MAX, 0x4000, 0xFFFE]),
+            _ => rng.word(),
+        };
         match image.get_mut(at) {
-            Some(entry) => *entry = rng.word(),
-            None => image.push(rng.word()),
+            Some(entry) => *entry = given,
+            None => image.push(given),
         }
     } else if let Some(entry) = image.get_mut(at) {
         *entry = NOT_GIVEN;
@@ -373,9 +452,11 @@ fn wanted(aim: u32, rng: &mut Rng) -> Vec<Field> {
     } else {
         at as u64
     };
-    // No record has a say in it.
     if rng.chance(20) {
-        d.words = rng.u16();
+        // The entry may be a configuration word by this record alone.
+        let words = at.saturating_sub(rng.pick(&[7, 8])) as u16;
+        let any = rng.u16();
+        d.words = rng.pick(&[words, any]);
     }
     let mut fields = record(&d, 0, rng);
     fields.extend([image.into(), reading.into(), i.into()]);
