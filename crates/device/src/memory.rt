@@ -1,4 +1,4 @@
-// Places and readings of a device's memory.
+// Places, masks and readings of a device's memory.
 use crate::Device;
 use crate::IDS;
 use crate::READING_TAIL;

@@ -1,20 +1,20 @@
 -- Demands 2 and 3 for an update: on any chip, and for this family's planner.
-use Prim.Native.Nat.{ℕ, _+_, _-_, _/_, _<_}
+use Prim.Native.Nat.{ℕ, _+_, _-_, _/_, _≤_, _<_}
 use native.Mathlib.Omega.{arith}
-use mathlib.Core.Path.{_≡_, refl, sym, subst, _∙_}
+use mathlib.Core.Path.{_≡_, refl, sym, ap, subst, _∙_}
 use mathlib.Core.Bool.{Bool, true, false, _&&_}
 use mathlib.Core.Logic.{_⊎_, inl, inr, ⊎-elim}
 use mathlib.Core.List.{List, _∷_}
 use lib.Dec.{ltb}
 use lib.Bits.{bitAnd}
 use lib.ListN.{length, getD}
-use borrow.Author.Tests.{lt-ltb, ltb-true, eqb-true}
-use Rattle.words.specs.Word.{Contains}
-use Rattle.words.specs.LawsChoice.{first-holds, second-holds, both, true-not-false}
+use borrow.Author.Tests.{lt-ltb, le-ltb, ltb-true, eqb-true}
+use Rattle.words.specs.Word.{bit, Contains}
+use Rattle.words.specs.LawsChoice.{first-holds, second-holds, second-fails, both, true-not-false}
 use Rattle.words.specs.LawsWord.{words-long, words-each}
-use Rattle.words.specs.LawsMask.{reaches-any}
+use Rattle.words.specs.LawsMask.{Reaches, reaches-any}
 use Rattle.device.specs.declared.Device.{Device}
-use Rattle.device.specs.Memory.{readingTail, cellsTail, cpWord, isConfig, protected}
+use Rattle.device.specs.Memory.{readingTail, cellsTail, cpWord, isConfig, maskAt, protected}
 use Rattle.device.specs.LawsRecord.{Rules, rules}
 use Rattle.device.specs.LawsMask.{mask-plain}
 use Rattle.device.specs.LawsMemory.{reading-long, reading-each, protected-same, config-range}
@@ -23,24 +23,25 @@ use Rattle.target.specs.Effects.{locked}
 use Rattle.target.specs.Step.{Target, soundCells}
 use Rattle.target.specs.Stream.{bytesOf}
 use Rattle.target.specs.Run.{modelOn, modelOf, runRefusal}
-use Rattle.target.specs.Cut.{Recovers}
+use Rattle.target.specs.Cut.{CutRuns, Recovers}
 use Rattle.target.specs.Crash.{Safe}
 use Rattle.target.specs.Board.{boardOf}
 use Rattle.target.specs.LawsChip.{SoundChip, Burning, sound-chip, burning}
 use Rattle.target.specs.LawsCrash.{safe-weaken}
-use Rattle.target.specs.LawsBoard.{chip-recovers-to}
+use Rattle.target.specs.LawsSpelt.{cut-runs}
+use Rattle.target.specs.LawsBoard.{spelling, chip-recovers-to}
 use Rattle.target.specs.LawsBlocks.{bulk-within}
-use Rattle.words.specs.LawsTests.{by-lt, by-eq, fails}
+use Rattle.words.specs.LawsTests.{by-test, by-lt, by-eq, fails}
 use Rattle.target.specs.declared.Order.{Order}
 use Rattle.target.specs.declared.Order.the-variants.{ResetAddress}
 use Rattle.plan.specs.Wanted.{known, wanted, idDiffers, configWrites}
 use Rattle.plan.specs.Steps.{Task, taskOf, bodyOf, updateTask, updateSteps}
 use Rattle.plan.specs.Answers.{onlyClears, configOk, updateNumber}
 use Rattle.plan.specs.Demands.{programmed}
-use Rattle.plan.specs.LawsWanted.{known-inside, known-fits, wanted-fits, wanted-reached, id-same, writes-only, writes-all}
+use Rattle.plan.specs.LawsWanted.{known-inside, known-fits, wanted-fits, wanted-spare, wanted-reached, id-same, writes-only, writes-all}
 use Rattle.plan.specs.LawsAccepted.{Accepted, accepted}
 use Rattle.plan.specs.LawsFits.{fits-body}
-use Rattle.plan.specs.LawsSafe.{SoundTask, Kept, spoken, wiped, spoken-past, spoken-within, wiped-program, wiped-past, sound-cells}
+use Rattle.plan.specs.LawsSafe.{SoundTask, Kept, spoken, wiped, spoken-past, spoken-within, wiped-program, wiped-past, wiped-word, sound-cells}
 use Rattle.plan.specs.LawsSafeSteps.{Free, free-at, enters, safe-reset}
 use Rattle.plan.specs.LawsSafeBody.{finished, safe-body}
 use Rattle.plan.specs.LawsProgrammed.{programmedOn, finished-programmed, unspoken-same, programmed-is, unrefused}
@@ -136,6 +137,15 @@ module _ (chip : Chip) (sound : SoundChip chip) (b : Burning chip) (word old : �
       (λ words c k. free-at chip 0 (Kept chip b task first) _ (enters chip words (Kept chip b task first) c k))
       (λ c k. takes (ResetAddress ∷ bodyOf chip task) c (sound-cells chip c (k .long) (k .fits))) (λ words x e. e) update-first
 
+  -- and before that, wherever and however often it was cut, the invariant holds
+  pub chip-update-kept : (judges : (stream cells : List ℕ) → ℕ) → ((i : ℕ) → word i < 0x4000)
+      → (c : List ℕ) → CutRuns (modelOn chip judges) (bytesOf (ResetAddress ∷ bodyOf chip (taskOf chip word old eraseRow eraseIds allIds))) first c
+      → Kept chip b (taskOf chip word old eraseRow eraseIds allIds) first c
+  chip-update-kept judges fit c cut =
+      cut-runs (modelOn chip judges) (spelling chip judges) (Kept chip b task first) (λ words. Free chip (Kept chip b task first)) (λ words x. x .cells ≡ programmedOn chip word first)
+      (ResetAddress ∷ bodyOf chip task) (tt, fits-body chip task (λ i. rw (word-is i) (fit i))) safe-update
+      (λ words c k. free-at chip 0 (Kept chip b task first) _ (enters chip words (Kept chip b task first) c k)) first c update-first cut
+
 -- ---- this family
 
 -- configuration words are words 7 and 8
@@ -216,3 +226,31 @@ module _ (d : Device) (image reading cells : List ℕ) (e : updateNumber d image
       (programmed-is d r image reading cells long)
       (chip-update-recovers (chipOf d) (sound-chip d r) (burning d) (wanted d image reading) (known reading) (λ k. true) ids-differ ids-differ cells begins (runRefusal d)
       (unrefused d (a .device)) fit))
+
+  -- wherever and however often it is cut, a bit that a configuration word does not have is the first cells'
+  pub update-keeps-spare : (c : List ℕ) → CutRuns (modelOf d) (bytesOf (updateSteps d image reading)) cells c → (k : ℕ) → isConfig k ≡ true → (n : ℕ) → n < 14
+      → bit (maskAt d (d .words + k)) n ≡ 0 → bit (getD c (d .words + k) 0) n ≡ bit (getD cells (d .words + k) 0) n
+  unfolding burning taskOf Reaches
+  update-keeps-spare c cut k config n h z =
+      by-test (spoken (chipOf d) spare-task (d .words + k))
+      (λ e. ⊎-elim (λ p. p ∙ (wanted-spare d image reading (d .words + k) n h z ∙ ap (λ w. bit w n) as-first))
+      (λ (p : (bit (maskAt d (d .words + k)) n ≡ 1) × (bit (wanted d image reading (d .words + k)) n ≡ 0)). let y : bit (maskAt d (d .words + k)) n ≡ 1 = p .0 in absurd (omega arith))
+      (still .holds (d .words + k) e unwiped n))
+      (λ e. ap (λ w. bit w n) (still .kept (d .words + k) e))
+    where
+      spare-task : Task
+      spare-task = taskOf (chipOf d) (wanted d image reading) (known reading) (λ k. true) ids-differ ids-differ
+
+      still : Kept (chipOf d) (burning d) spare-task cells c
+      still =
+          chip-update-kept (chipOf d) (sound-chip d r) (burning d) (wanted d image reading) (known reading) (λ k. true) ids-differ ids-differ cells begins (runRefusal d) fit c
+          (subst (λ o. CutRuns (modelOf d) (bytesOf o) cells c) (sym steps-are) cut)
+
+      within : k < readingTail
+      within = sound-chip d r .config-within k config
+
+      unwiped : wiped (chipOf d) spare-task (d .words + k) ≡ false
+      unwiped = wiped-word (chipOf d) spare-task k ∙ second-fails ids-differ (ltb k 4) (le-ltb k 4 (let y : 7 ≤ k = config-range k config .0 in omega arith))
+
+      as-first : known reading (d .words + k) ≡ getD cells (d .words + k) 0
+      as-first = let y : k < readingTail = within in known-is (d .words + k) (omega arith) ∙ sym (held (d .words + k) (omega arith))

@@ -9,8 +9,8 @@ use mathlib.Core.List.{List, [], _∷_}
 use lib.Dec.{ltb, eqb}
 use lib.ListN.{length, getD, List·getD-eq-default}
 use borrow.Author.Tests.{eqb-true, eq-eqb, ne-eqb, lt-ltb, ltb-true}
-use Rattle.words.specs.Word.{erased, notGiven, Contains, underMask}
-use Rattle.words.specs.LawsMask.{under-lt, Reaches, reaches-same, reaches-cleared}
+use Rattle.words.specs.Word.{erased, notGiven, bit, Contains, underMask}
+use Rattle.words.specs.LawsMask.{under-outside, under-lt, Reaches, reaches-same, reaches-cleared}
 use Rattle.words.specs.LawsChoice.{pick-true, pick-false, both, first-holds, true-not-false}
 use Rattle.device.specs.declared.Device.{Device}
 use Rattle.device.specs.Memory.{readingTail, cpWord, imageOk, maskAt}
@@ -52,6 +52,12 @@ module _ (d : Device) (image reading : List ℕ) (i : ℕ) where
   -- program words and user IDs have every bit
   pub wanted-whole : i < d .words + cpWord → (getD image i notGiven ≡ notGiven → ⊥) → wanted d image reading i ≡ getD image i notGiven
   wanted-whole h e = wanted-given e ∙ under-plain d i h (getD image i notGiven) (known reading i)
+
+  -- a bit that the word does not have is the known one, given or not
+  pub wanted-spare : (n : ℕ) → n < 14 → bit (maskAt d i) n ≡ 0 → bit (wanted d image reading i) n ≡ bit (known reading i) n
+  wanted-spare n h z =
+      by-eq (getD image i notGiven) notGiven (λ e. ap (λ w. bit w n) (wanted-silent e))
+      (λ e. ap (λ w. bit w n) (wanted-given e) ∙ under-outside (maskAt d i) (getD image i notGiven) (known reading i) n h z)
 
 -- ---- every wanted word has 14 bits
 
