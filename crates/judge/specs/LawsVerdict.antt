@@ -206,6 +206,18 @@ module _ (d : Device) (wanted reading : List ℕ) (w : readingOk (d .words) want
 
 -- ---- what has a say
 
+-- readings of which the same entries differ, both protected or neither, get the same verdict
+module _ (d : Device) (wanted wanted′ reading reading′ : List ℕ) (guard : protected (d .words) reading ≡ protected (d .words) reading′)
+    (each : (i : ℕ) → i < d .words + readingTail → entryDiffers d wanted reading i ≡ entryDiffers d wanted′ reading′ i) where
+  same-verdict : verdictOf d wanted reading ≡ verdictOf d wanted′ reading′
+  unfolding verdictOf
+  same-verdict =
+      rw (
+        count-same (entryDiffers d wanted reading) (entryDiffers d wanted′ reading′) (d .words + readingTail) each,
+        first-same (entryDiffers d wanted reading) (entryDiffers d wanted′ reading′) (d .words + readingTail) each,
+        guard,
+      )
+
 -- readings that are the same wherever an entry is judged get the same verdict
 module _ (d : Device) (wanted wanted′ reading reading′ : List ℕ)
     (same : (i : ℕ) → i < d .words + readingTail → judged (d .words) (protected (d .words) reading) i ≡ true → (getD wanted i 0 ≡ getD wanted′ i 0) × (getD reading i 0 ≡ getD reading′ i 0)) where
@@ -224,13 +236,7 @@ module _ (d : Device) (wanted wanted′ reading reading′ : List ℕ)
       not-there j = differs-not-judged d wanted reading i j ∙ sym (differs-not-judged d wanted′ reading′ i (rw (← guard-same) j))
 
   pub verdict-same : verdictOf d wanted reading ≡ verdictOf d wanted′ reading′
-  unfolding verdictOf
-  verdict-same =
-      rw (
-        count-same (entryDiffers d wanted reading) (entryDiffers d wanted′ reading′) (d .words + readingTail) each-same,
-        first-same (entryDiffers d wanted reading) (entryDiffers d wanted′ reading′) (d .words + readingTail) each-same,
-        guard-same,
-      )
+  verdict-same = same-verdict d wanted wanted′ reading reading′ guard-same each-same
 
 -- a protected reading: program words have no say, on either side
 pub hidden-same : (d : Device) (wanted wanted′ reading reading′ : List ℕ) → protected (d .words) reading ≡ true
@@ -274,13 +280,7 @@ module _ (d : Device) (ok : deviceOk d ≡ true) (wanted wanted′ reading readi
       (same i h .0) (same i h .1))
 
   pub spare-same : verdictOf d wanted reading ≡ verdictOf d wanted′ reading′
-  unfolding verdictOf
-  spare-same =
-      rw (
-        count-same (entryDiffers d wanted reading) (entryDiffers d wanted′ reading′) (d .words + readingTail) spare-each,
-        first-same (entryDiffers d wanted reading) (entryDiffers d wanted′ reading′) (d .words + readingTail) spare-each,
-        spare-guard,
-      )
+  spare-same = same-verdict d wanted wanted′ reading reading′ spare-guard spare-each
 
 -- ---- the answer's number
 
