@@ -34,7 +34,7 @@ extern "C" {
 #endif
 
 /* A device: its ID word, program words P, row words R, and the masks of the two configuration words, which say what bits these have:
-   no other bit of a configuration word is written, wanted or compared.
+   no write changes another bit of them, an image has no say in it, and verify does not compare it. Bulk Erase sets all 14.
    The rules, which every call that takes a record judges first (13): R is 8, 16 or 32; P is a multiple of R, from R to 8192; the ID and both
    masks are at most 3FFFh; mask1 has bit 7 set. */
 typedef struct {
@@ -112,7 +112,7 @@ uint8_t tickmallet_run(const tickmallet_device *device, uint16_t *cells, size_t 
 uint8_t tickmallet_update(const tickmallet_device *device, const uint16_t *image, size_t image_count,
                           const uint16_t *reading, size_t reading_count, uint8_t *out, size_t out_count, size_t *steps);
 
-/* Plans a fresh programming of any board whose word 8006h is `id_word`: what the image does not give becomes 3FFFh, and so every bit of a
+/* Plans a fresh programming of any board whose word 8006h is `id_word`: what the image does not give becomes 3FFFh, and every bit of a
    configuration word that is not under its mask becomes 1. 13, 20, 22, 26. */
 uint8_t tickmallet_fresh(const tickmallet_device *device, const uint16_t *image, size_t image_count, uint16_t id_word,
                          uint8_t *out, size_t out_count, size_t *steps);
@@ -124,8 +124,8 @@ uint8_t tickmallet_read_back(const tickmallet_device *device, uint8_t *out, size
 uint8_t tickmallet_checksum(const tickmallet_device *device, const uint16_t *reading, size_t reading_count, uint16_t *sum);
 
 /* Holds a reading against a wanted one: user IDs, configuration words under their masks and, unless the reading is protected, program
-   words. 0: all the same. 40: some differ; stores the first differing word address and the count of differing words. 41: nothing that is judged
-   differs, but the board is protected. 13; 21: one of the two is not a reading. */
+   words. 0: all the same. 40: some differ; stores the first differing word address and the count of differing words. 41: nothing that
+   is judged differs, but the board is protected. 13; 21: one of the two is not a reading. */
 uint8_t tickmallet_verify(const tickmallet_device *device, const uint16_t *wanted, size_t wanted_count,
                           const uint16_t *reading, size_t reading_count, uint16_t *address, size_t *count);
 
