@@ -10,8 +10,8 @@ use lib.ListN.{length, getD, take, drop}
 use lib.Seq.{sets, sets-eq, take-at}
 use borrow.Author.Tests.{leb-true, eq-eqb}
 use Rattle.words.specs.Choice.{pick}
-use Rattle.words.specs.Word.{erased, notGiven, bit, underMask}
-use Rattle.words.specs.LawsMask.{erased-bit, under-inside, under-outside}
+use Rattle.words.specs.Word.{erased, notGiven, bit}
+use Rattle.words.specs.LawsMask.{erased-bit, under-inside}
 use Rattle.words.specs.LawsChoice.{pick-true, pick-false}
 use Rattle.words.specs.LawsLists.{getD-build}
 use Rattle.device.specs.declared.Device.{Device}
@@ -23,7 +23,7 @@ use Rattle.target.specs.declared.Order.{Order}
 use Rattle.plan.specs.Wanted.{known, wanted}
 use Rattle.plan.specs.Answers.{planned, plannedOut}
 use Rattle.plan.specs.Demands.{programmed}
-use Rattle.plan.specs.LawsWanted.{wanted-silent, wanted-given, wanted-whole}
+use Rattle.plan.specs.LawsWanted.{wanted-silent, wanted-given, wanted-whole, wanted-spare}
 
 -- ---- the programmed cells, word by word
 
@@ -41,12 +41,12 @@ module _ (d : Device) (image reading first : List ℕ) (i : ℕ) (h : i < length
       → (bit (maskAt d i) n ≡ 1 → bit (getD (programmed d image reading first) i 0) n ≡ bit (getD image i notGiven) n)
       × (bit (maskAt d i) n ≡ 0 → bit (getD (programmed d image reading first) i 0) n ≡ bit (known reading i) n)
   given-config p g n h = (
-    λ e. ap (λ w. bit w n) made ∙ under-inside (maskAt d i) (getD image i notGiven) (known reading i) n e,
-    λ e. ap (λ w. bit w n) made ∙ under-outside (maskAt d i) (getD image i notGiven) (known reading i) n h e,
+    λ e. ap (λ w. bit w n) (placed ∙ wanted-given d image reading i g) ∙ under-inside (maskAt d i) (getD image i notGiven) (known reading i) n e,
+    λ e. ap (λ w. bit w n) placed ∙ wanted-spare d image reading i n h e,
   )
     where
-      made : getD (programmed d image reading first) i 0 ≡ underMask (maskAt d i) (getD image i notGiven) (known reading i)
-      made = entry ∙ (pick-true (programmable (d .words) i) _ _ p ∙ wanted-given d image reading i g)
+      placed : getD (programmed d image reading first) i 0 ≡ wanted d image reading i
+      placed = entry ∙ pick-true (programmable (d .words) i) _ _ p
 
   -- a word that it does not give is the known one
   pub silent-word : programmable (d .words) i ≡ true → getD image i notGiven ≡ notGiven → getD (programmed d image reading first) i 0 ≡ known reading i

@@ -9,9 +9,9 @@ use lib.Dec.{ltb}
 use lib.Bits.{bitAnd}
 use lib.ListN.{length, getD}
 use borrow.Author.Tests.{lt-ltb, le-ltb, ltb-true, eqb-true}
-use Rattle.words.specs.Word.{bit, Contains}
+use Rattle.words.specs.Word.{bit}
 use Rattle.words.specs.LawsChoice.{first-holds, second-holds, second-fails, both, true-not-false}
-use Rattle.words.specs.LawsWord.{words-long, words-each}
+use Rattle.words.specs.LawsWord.{Contains, words-long, words-each}
 use Rattle.words.specs.LawsMask.{Reaches, reaches-any}
 use Rattle.device.specs.declared.Device.{Device}
 use Rattle.device.specs.Memory.{readingTail, cellsTail, cpWord, isConfig, maskAt, protected}

@@ -9,7 +9,8 @@ use mathlib.Core.List.{List, [], _∷_}
 use lib.Dec.{ltb, eqb}
 use lib.ListN.{length, getD, List·getD-eq-default}
 use borrow.Author.Tests.{eqb-true, eq-eqb, ne-eqb, lt-ltb, ltb-true}
-use Rattle.words.specs.Word.{erased, notGiven, bit, Contains, underMask}
+use Rattle.words.specs.Word.{erased, notGiven, bit, underMask}
+use Rattle.words.specs.LawsWord.{Contains}
 use Rattle.words.specs.LawsMask.{under-outside, under-lt, Reaches, reaches-same, reaches-cleared}
 use Rattle.words.specs.LawsChoice.{pick-true, pick-false, both, first-holds, true-not-false}
 use Rattle.device.specs.declared.Device.{Device}

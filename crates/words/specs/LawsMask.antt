@@ -7,8 +7,8 @@ use mathlib.Core.Logic.{_⊎_, inl, inr, ⊎-elim}
 use lib.Arith.{digits-mod}
 use lib.Pow.{pow-pos, pow-lt}
 use lib.Bits.{bitAnd, bitOr, bitXor, differ, and-zero-r, or-zero-r, or-step, or-shr, xor-zero-r, xor-step, xor-shr}
-use Rattle.words.specs.Word.{erased, bit, Between, Contains, without, spare, underMask}
-use Rattle.words.specs.LawsWord.{bit-and, bit-high, same-bits, high-bits, contains-bits, erased-contains}
+use Rattle.words.specs.Word.{erased, bit, Between, without, spare, underMask}
+use Rattle.words.specs.LawsWord.{Contains, bit-and, bit-high, same-bits, high-bits, contains-bits, erased-contains}
 use Rattle.words.specs.LawsTests.{by-lt, by-eq}
 
 -- ---- bits are 0 or 1

@@ -15,7 +15,7 @@ use native.Mathlib.Decide.{decLt}
 use Rattle.words.specs.Lists.{every}
 use Rattle.words.specs.LawsChoice.{both, first-holds, second-holds, first-fails}
 use Rattle.words.specs.LawsLists.{every-at, every-all, getD-past}
-use Rattle.words.specs.Word.{erased, isWord, bit, Between, Contains, wordsOf}
+use Rattle.words.specs.Word.{erased, isWord, bit, Between, wordsOf}
 
 -- ---- what 14 bits hold
 
@@ -109,6 +109,10 @@ high-bits k w h = rw one-mul-pow at (div-lt-iff-lt-mul (pow-pos k) .0 one)
     one-mul-pow = native.Mathlib.Nat.one-mul (2 ^ k)
 
 -- ---- containment
+
+-- w has every bit that x has
+unfoldable pub Contains : ℕ → ℕ → Type 0
+Contains w x = bitAnd w x ≡ x
 
 pub contains-bits : (w x : ℕ) → Contains w x → (i : ℕ) → bit x i ≤ bit w i
 unfolding Contains

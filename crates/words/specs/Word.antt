@@ -29,10 +29,6 @@ bit w i = w / 2 ^ i % 2
 unfoldable pub Between : ℕ → ℕ → ℕ → Type 0
 Between old new w = (i : ℕ) → (bit w i ≡ bit old i) ⊎ (bit w i ≡ bit new i)
 
--- w has every bit that x has
-unfoldable pub Contains : ℕ → ℕ → Type 0
-Contains w x = bitAnd w x ≡ x
-
 -- ---- masks: the 1 bits of a mask are those that a word has
 
 -- a word without these bits
@@ -43,7 +39,7 @@ without bits w = bitXor w (bitAnd w bits)
 unfoldable pub spare : (mask : ℕ) → ℕ
 spare mask = without mask erased
 
--- new bits under a mask, old bits elsewhere
+-- new bits under a mask, old bits elsewhere; what a number has above 14 bits is the new one's
 unfoldable pub underMask : (mask new old : ℕ) → ℕ
 underMask mask new old = bitOr (without (spare mask) new) (bitAnd old (spare mask))
 
