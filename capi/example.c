@@ -2,7 +2,7 @@
 
      example TABLE SHEET HEX      as device.tab, board.txt and new.hex of the program `update`
 
-   Prints the number of steps and how many words of the model changed; or `refused`, the number and a line number. */
+   Prints the number of steps and how many words of the model changed; or `refused`, the number, a line number and a column. */
 
 #include <stdio.h>
 #include <string.h>
@@ -26,10 +26,15 @@ static size_t load(const char *name, uint8_t *to, size_t room)
     return n;
 }
 
-static int refused(unsigned number, unsigned line)
+static int refused_at(unsigned number, unsigned line, unsigned column)
 {
-    printf("refused\t%u\t%u\n", number, line);
+    printf("refused\t%u\t%u\t%u\n", number, line, column);
     return 1;
+}
+
+static int refused(unsigned number)
+{
+    return refused_at(number, 0, 0);
 }
 
 static const char *plural(size_t n)
@@ -54,26 +59,26 @@ int main(int argc, char **argv)
     uint8_t first = tickmallet_read_id(sheet, sheet_count, &id);
     uint8_t found = table_count <= MOST_TABLE ? tickmallet_find_device(table, table_count, id, &device, &name_at, &name_len) : 15;
     if (found == 15)
-        return refused(15, 0);
+        return refused(15);
     if (first)
-        return refused(first, 0);
+        return refused(first);
     if (found)
-        return refused(found, 0);
+        return refused(found);
 
     /* what the board holds, and what the file gives */
     size_t count = TICKMALLET_READING_WORDS(device.words);
     uint8_t number = sheet_count <= MOST_TEXT ? tickmallet_read_sheet(&device, sheet, sheet_count, reading, count) : 14;
     if (number)
-        return refused(number, 0);
-    uint32_t line = 0;
-    number = hex_count <= MOST_TEXT ? tickmallet_read_hex(&device, hex, hex_count, image, count, &line) : 1;
+        return refused(number);
+    uint32_t line = 0, column = 0;
+    number = hex_count <= MOST_TEXT ? tickmallet_read_hex(&device, hex, hex_count, image, count, &line, &column) : 1;
     if (number)
-        return refused(number, line);
+        return refused_at(number, line, column);
 
     size_t steps;
     number = tickmallet_update(&device, image, count, reading, count, stream, sizeof stream, &steps);
     if (number)
-        return refused(number, 0);
+        return refused(number);
     printf("%.*s: %zu step%s\n", (int)name_len, (const char *)table + name_at, steps, plural(steps));
 
     /* the model holds the reading, and calibration words that nothing changes */
@@ -83,7 +88,7 @@ int main(int argc, char **argv)
     size_t done, words_read;
     number = tickmallet_run(&device, cells, TICKMALLET_CELLS(device.words), stream, 3 * steps, steps, &none, 0, &done, &words_read);
     if (number)
-        return refused(number, 0);
+        return refused(number);
     size_t changed = 0;
     for (size_t i = 0; i < count; i++)
         changed += cells[i] != reading[i];

@@ -83,13 +83,15 @@ uint8_t tickmallet_read_sheet(const tickmallet_device *device, const uint8_t *te
 uint8_t tickmallet_write_sheet(const tickmallet_device *device, const uint16_t *reading, size_t reading_count,
                                uint8_t *out, size_t out_count, size_t *length);
 
-/* Reads HEX text into an image, and stores the line of a refusal (from 1; 0 where the refusal has none).
+/* Reads HEX text into an image, and stores the line of a refusal and the column in it (each from 1; both 0 where the refusal has none).
    13 and 12 (the image is not P+9 long) leave the image; every other refusal makes it all FFFFh.
    1: more than 131072 bytes. Then the first bad line: 11: not empty and after the end record; 2: not a record; 3: wrong sum; 4: type not
    00, 01, 04; 5: type 01 or 04 with a wrong length or address; 6: data at an odd address or of odd length; then word by word 7: no
-   program word, user ID or configuration word; 8: above 3FFFh; 9: given before. Last 10: no end record. */
+   program word, user ID or configuration word; 8: above 3FFFh; 9: given before. Last 10: no end record.
+   The column of 2 is that of the first character that cannot stand there, or one past the end of a line that stops short; of 3 to 6 and 11
+   it is 1; of 7 to 9 that of the first digit of the word's low byte. A line's characters are counted without its LF and one CR before it. */
 uint8_t tickmallet_read_hex(const tickmallet_device *device, const uint8_t *text, size_t text_count,
-                            uint16_t *image, size_t image_count, uint32_t *line);
+                            uint16_t *image, size_t image_count, uint32_t *line, uint32_t *column);
 
 /* Writes the given words of an image as HEX text and stores its length. What it writes is read back as the same image.
    13; 20: not an image; 26: the buffer is too short. */

@@ -63,7 +63,7 @@ static void longest_hex(size_t p)
 static void hexes(const tickmallet_device *d)
 {
     size_t p = d->words, length;
-    uint32_t line;
+    uint32_t line, column;
     all_different(p);
     holds(tickmallet_write_hex(d, image, TICKMALLET_IMAGE_WORDS(p), hex, TICKMALLET_HEX_BYTES(p), &length) == 0 && length <= TICKMALLET_HEX_BYTES(p),
           "a whole image is written in TICKMALLET_HEX_BYTES");
@@ -71,7 +71,7 @@ static void hexes(const tickmallet_device *d)
     holds(tickmallet_write_hex(d, image, TICKMALLET_IMAGE_WORDS(p), hex, TICKMALLET_HEX_BYTES(p), &length) == 0 && length == 17 * p / 2 + 96 &&
               length <= TICKMALLET_HEX_BYTES(p),
           "the longest text that was found has 17P/2 + 96 bytes");
-    holds(tickmallet_read_hex(d, hex, length, image, TICKMALLET_IMAGE_WORDS(p), &line) == 0, "it is read into TICKMALLET_IMAGE_WORDS");
+    holds(tickmallet_read_hex(d, hex, length, image, TICKMALLET_IMAGE_WORDS(p), &line, &column) == 0, "it is read into TICKMALLET_IMAGE_WORDS");
 }
 
 /* One more or one less than just so many is refused. */

@@ -1,4 +1,5 @@
 /* HEX text, read and written. */
+#include <stdio.h>
 #include <string.h>
 
 #include "agree.h"
@@ -6,11 +7,32 @@
 
 static uint8_t text[MOST_BYTES + 8];
 
+/* ---- at which columns a number came up */
+
+enum { COLUMNS = 1024 };
+
+static uint8_t columns[16][COLUMNS];
+
+static void column_seen(unsigned number, unsigned column)
+{
+    if (number < 16 && column < COLUMNS)
+        columns[number][column] = 1;
+}
+
+static unsigned columns_of(unsigned number)
+{
+    unsigned n = 0;
+    for (unsigned column = 1; column < COLUMNS; column++)
+        n += columns[number][column];
+    return n;
+}
+
 static void read_hex(const tickmallet_device *d, const uint8_t *from, size_t n, size_t count)
 {
     begin(0, count, 0);
-    proved.number = tickmallet_read_hex(d, from, n, proved.words, count, &proved.line);
-    plain.number = plain_read_hex(d, from, n, plain.words, count, &plain.line);
+    proved.number = tickmallet_read_hex(d, from, n, proved.words, count, &proved.line, &proved.column);
+    plain.number = plain_read_hex(d, from, n, plain.words, count, &plain.line, &plain.column);
+    column_seen(plain.number, plain.column);
     end(READ_HEX);
 }
 
@@ -128,6 +150,50 @@ static void longest_record(const tickmallet_device *d)
     read_hex(d, text, n, d->words + 9u);
 }
 
+/* The longest record cut at each length, and with a character that is no digit at each place. */
+static void every_length(const tickmallet_device *d)
+{
+    uint8_t bytes[300] = {255};
+    size_t n = put_line(text, bytes, put_sum(bytes, 4 + 255));
+    for (size_t k = 0; k <= n; k++)
+        read_hex(d, text, k, d->words + 9u);
+    for (size_t k = 0; k < n; k++) {
+        uint8_t kept = text[k];
+        text[k] = (uint8_t)"g/:\r\xe9"[below(5)];
+        read_hex(d, text, n, d->words + 9u);
+        text[k] = kept;
+    }
+}
+
+/* Data of so many words from a word address on, the value of each its place but for one. */
+static size_t put_words(uint8_t *to, unsigned first, size_t words, size_t place, unsigned value)
+{
+    uint8_t bytes[300] = {(uint8_t)(2 * words), (uint8_t)(first >> 7), (uint8_t)(2 * first), 0};
+    unsigned sum = 0;
+    for (size_t i = 0; i < words; i++) {
+        unsigned w = i == place ? value : (unsigned)i;
+        bytes[4 + 2 * i] = (uint8_t)w;
+        bytes[5 + 2 * i] = (uint8_t)(w >> 8);
+    }
+    for (size_t i = 0; i < 4 + 2 * words; i++)
+        sum += bytes[i];
+    bytes[4 + 2 * words] = (uint8_t)-sum;
+    return put_line(to, bytes, 5 + 2 * words);
+}
+
+/* The longest record of whole words, refused at each of them: with 7 by its address, with 8, and with 9 by a record before it. */
+static void every_word(void)
+{
+    static const tickmallet_device d = {0x2a00, 256, 32, 0x3eff, 0x3ff3};
+    enum { WORDS = 127 };
+    for (unsigned place = 0; place < WORDS; place++) {
+        read_hex(&d, text, put_words(text, 256 - place, WORDS, place, 0x3fff), 265);
+        read_hex(&d, text, put_words(text, 5, WORDS, place, 0x4000), 265);
+        size_t n = put_words(text, 5 + place, 1, 0, 0x3fff);
+        read_hex(&d, text, n + put_words(text + n, 5, WORDS, place, 0x3fff), 265);
+    }
+}
+
 /* The longest text that is taken, and one byte more; a refusal in its last line; the longest record, and a line that is longer. */
 void agree_long_hex(void)
 {
@@ -148,4 +214,8 @@ void agree_long_hex(void)
     for (size_t n = 500; n < 540; n++)
         read_hex(&d, text, n, 25);
     read_hex(&d, text, most, 25);
+    every_length(&d);
+    every_word();
+    printf("different columns by number 2:%u 7:%u 8:%u 9:%u\n", columns_of(2), columns_of(7), columns_of(8), columns_of(9));
+    holds(columns_of(2) >= 500 && columns_of(7) >= 100 && columns_of(8) >= 100 && columns_of(9) >= 100, "2 and 7 to 9 come up at nearly every column");
 }

@@ -15,7 +15,7 @@ enum call { FIND_DEVICE, READ_ID, READ_SHEET, WRITE_SHEET, READ_HEX, WRITE_HEX, 
 struct side {
     uint8_t number;
     uint16_t value;
-    uint32_t line;
+    uint32_t line, column;
     size_t a, b;
     tickmallet_device device;
     uint8_t bytes[MOST_BYTES + GUARD];

@@ -12,7 +12,7 @@ uint8_t plain_read_sheet(const tickmallet_device *device, const uint8_t *text, s
 uint8_t plain_write_sheet(const tickmallet_device *device, const uint16_t *reading, size_t reading_count,
                           uint8_t *out, size_t out_count, size_t *length);
 uint8_t plain_read_hex(const tickmallet_device *device, const uint8_t *text, size_t text_count,
-                       uint16_t *image, size_t image_count, uint32_t *line);
+                       uint16_t *image, size_t image_count, uint32_t *line, uint32_t *column);
 uint8_t plain_write_hex(const tickmallet_device *device, const uint16_t *image, size_t image_count,
                         uint8_t *out, size_t out_count, size_t *length);
 uint8_t plain_run(const tickmallet_device *device, uint16_t *cells, size_t cells_count, const uint8_t *stream, size_t stream_count,

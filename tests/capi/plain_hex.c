@@ -15,6 +15,7 @@ struct reader {
     uint16_t *image;
     uint32_t upper;
     int ended;
+    size_t refused; /* the data byte at which a word was refused */
 };
 
 /* The bytes of a record: 0, 2 or 3. */
@@ -35,6 +36,12 @@ static int decode(const uint8_t *line, size_t n, uint8_t *bytes)
     return sum % 256 ? 3 : 0;
 }
 
+static int refuse(struct reader *r, size_t byte, int number)
+{
+    r->refused = byte;
+    return number;
+}
+
 static int give(struct reader *r, const uint8_t *bytes)
 {
     uint64_t address = (uint64_t)r->upper * 65536 + bytes[1] * 256u + bytes[2];
@@ -46,12 +53,12 @@ static int give(struct reader *r, const uint8_t *bytes)
         else if (word_address >= BASE && word_address < BASE + 9 && !(word_address >= BASE + 4 && word_address < BASE + 7))
             entry = r->words + (word_address - BASE);
         else
-            return 7;
+            return refuse(r, i, 7);
         unsigned word = bytes[4 + i] + 256u * bytes[5 + i];
         if (word >= LIMIT)
-            return 8;
+            return refuse(r, i, 8);
         if (r->image[entry] != NOT_GIVEN)
-            return 9;
+            return refuse(r, i, 9);
         r->image[entry] = (uint16_t)word;
     }
     return 0;
@@ -88,6 +95,28 @@ static int take(struct reader *r, const uint8_t *line, size_t n)
     }
 }
 
+/* The column where a line stops to be a record. Digits are passed up to the record's last column, which is known after LL. */
+static size_t broken_column(const uint8_t *line, size_t n)
+{
+    if (line[0] != ':')
+        return 1;
+    size_t last = 3, passed = 1;
+    while (passed < n && passed < last && digits[line[passed]]) {
+        passed++;
+        if (passed == 3)
+            last = 1 + 2 * (16 * (digits[line[1]] & 15u) + (digits[line[2]] & 15u) + 5);
+    }
+    return passed + 1;
+}
+
+/* Asked for a refused line alone, so that a sound text costs nothing more. */
+static uint32_t column_of(const struct reader *r, int number, const uint8_t *line, size_t n)
+{
+    if (number == 2)
+        return (uint32_t)broken_column(line, n);
+    return number >= 7 && number <= 9 ? 10 + 2 * (uint32_t)r->refused : 1;
+}
+
 static void clear(uint16_t *image, size_t count)
 {
     for (size_t i = 0; i < count; i++)
@@ -95,9 +124,9 @@ static void clear(uint16_t *image, size_t count)
 }
 
 uint8_t plain_read_hex(const tickmallet_device *device, const uint8_t *text, size_t text_count,
-                       uint16_t *image, size_t image_count, uint32_t *line)
+                       uint16_t *image, size_t image_count, uint32_t *line, uint32_t *column)
 {
-    *line = 0;
+    *line = *column = 0;
     if (!device_ok(device))
         return 13;
     if (image_count != device->words + 9u)
@@ -105,7 +134,7 @@ uint8_t plain_read_hex(const tickmallet_device *device, const uint8_t *text, siz
     clear(image, image_count);
     if (text_count > 131072)
         return 1;
-    struct reader r = {device->words, image, 0, 0};
+    struct reader r = {device->words, image, 0, 0, 0};
     uint32_t number_of_line = 1;
     for (size_t at = 0; at < text_count; number_of_line++) {
         const uint8_t *lf = memchr(text + at, '\n', text_count - at);
@@ -116,6 +145,7 @@ uint8_t plain_read_hex(const tickmallet_device *device, const uint8_t *text, siz
         if (number) {
             clear(image, image_count);
             *line = number_of_line;
+            *column = column_of(&r, number, text + at, end - at);
             return (uint8_t)number;
         }
         at = stop + 1;

@@ -31,7 +31,7 @@ static size_t hex_count, planned_count, reads_count;
 static struct {
     uint8_t number;
     uint16_t value;
-    uint32_t line;
+    uint32_t line, column;
     size_t a, b;
     uint16_t image[COUNT], cells[CELLS], words[COUNT];
     uint8_t text[TEXT], stream[STREAM];
@@ -39,12 +39,14 @@ static struct {
 
 static void read_hex(int side)
 {
-    out[side].number = (side == PLAIN ? plain_read_hex : tickmallet_read_hex)(&device, hex, hex_count, out[side].image, COUNT, &out[side].line);
+    out[side].number = (side == PLAIN ? plain_read_hex : tickmallet_read_hex)(&device, hex, hex_count, out[side].image, COUNT,
+                                                                              &out[side].line, &out[side].column);
 }
 
 static void read_long_hex(int side)
 {
-    out[side].number = (side == PLAIN ? plain_read_hex : tickmallet_read_hex)(&device, long_hex, sizeof long_hex, out[side].image, COUNT, &out[side].line);
+    out[side].number = (side == PLAIN ? plain_read_hex : tickmallet_read_hex)(&device, long_hex, sizeof long_hex, out[side].image, COUNT,
+                                                                              &out[side].line, &out[side].column);
 }
 
 static void write_hex(int side)

@@ -8,13 +8,14 @@ use words::WordAddress;
 pub(crate) fn refusal(line: &[u8], at: usize, a: &mut [u8], out: &mut [u8]) -> usize {
     let number = fields::byte(line, at);
     let place = fields::long(line, number.at);
-    let text = fields::bytes(line, place.at, a);
+    let column = fields::long(line, place.at);
+    let text = fields::bytes(line, column.at, a);
     if text.at != line.len() {
         return NOWHERE;
     }
     let n = text.count;
     let part = &mut a[..n];
-    let length = print::refusal(part, number.value, place.value);
+    let length = print::refusal(part, number.value, place.value, column.value);
     let next = put::number(out, at, length as u64);
     put::bytes(out, next, part)
 }

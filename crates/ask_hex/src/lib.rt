@@ -38,7 +38,13 @@ fn read_hex(line: &[u8], at: usize, a: &mut [u8], w: &mut [u16], out: &mut [u8])
     let m = image.count;
     let part = &mut w[..m];
     let read = hexread::read_hex(d.device, &a[..n], part);
-    let next = put::two(out, at, read.number as u64, read.line as u64);
+    let next = put::three(
+        out,
+        at,
+        read.number as u64,
+        read.line as u64,
+        read.column as u64,
+    );
     put::words(out, next, part)
 }
 

@@ -37,11 +37,12 @@ pub write-sheet-determined : (κs : _) (a : _) (r s : _) (x y : _) → write-she
     → (r ≡ s) × (now (x .1 .1 .0) ≡ now (y .1 .1 .0)) × (now (x .1 .1 .1 .0) ≡ now (y .1 .1 .1 .0))
 write-sheet-determined κs a r s x y p q = let e = determined (p .0) (q .0) in (ap (λ v. v .number) e, determined (p .1) (q .1), ap (λ v. v .length) e)
 
--- the image is the third parameter, the line the fourth
+-- the image is the third parameter, the line the fourth, the column the fifth
 pub read-hex-determined : (κs : _) (a : _) (r s : _) (x y : _) → read-hex.Post κs a r x → read-hex.Post κs a s y
-    → (r ≡ s) × (now (x .1 .1 .0) ≡ now (y .1 .1 .0)) × (now (x .1 .1 .1 .0) ≡ now (y .1 .1 .1 .0))
+    → (r ≡ s) × (now (x .1 .1 .0) ≡ now (y .1 .1 .0)) × (now (x .1 .1 .1 .0) ≡ now (y .1 .1 .1 .0)) × (now (x .1 .1 .1 .1 .0) ≡ now (y .1 .1 .1 .1 .0))
 read-hex-determined κs a r s x y p q =
-    let e = determined (p .answer) (q .answer) in (ap (λ v. v .number) e, determined (p .image-is) (q .image-is), ap (λ v. v .line) e)
+    let e = determined (p .answer) (q .answer) in
+    (ap (λ v. v .number) e, determined (p .image-is) (q .image-is), ap (λ v. v .line) e, ap (λ v. v .column) e)
 
 -- the text is the third parameter, its length the fourth
 pub write-hex-determined : (κs : _) (a : _) (r s : _) (x y : _) → write-hex.Post κs a r x → write-hex.Post κs a s y

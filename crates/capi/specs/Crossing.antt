@@ -36,8 +36,8 @@ idAnswer number id = record { number = number; id = id }
 abbrev pub sheetAnswer : (number length : ℕ) → Written
 sheetAnswer number length = record { number = number; length = length }
 
-abbrev pub hexOutcome : (number line : ℕ) → ReadHex
-hexOutcome number line = record { number = number; line = line }
+abbrev pub hexOutcome : (number line column : ℕ) → ReadHex
+hexOutcome number line column = record { number = number; line = line; column = column }
 
 abbrev pub hexAnswer : (number length : ℕ) → WrittenHex
 hexAnswer number length = record { number = number; length = length }

@@ -11,11 +11,13 @@ pub extern "C" fn tickmallet_read_hex(
     text: &[u8],
     image: &mut [u16],
     line: &mut u32,
+    column: &mut u32,
 ) -> u8
-    ensures { λ r. ⌜ HexRead (deviceAt (now (numbers .entry))) (now (text .entry)) (now (image .entry)) (hexOutcome r (now (line .exit))) (now (image .exit)) ⌝ }
+    ensures { λ r. ⌜ HexRead (deviceAt (now (numbers .entry))) (now (text .entry)) (now (image .entry)) (hexOutcome r (now (line .exit)) (now (column .exit))) (now (image .exit)) ⌝ }
 {
     let a = hexread::read_hex(device_at(numbers), text, image);
     *line = a.line;
+    *column = a.column;
     a.number
 }
 

@@ -34,5 +34,5 @@ gatherNumber table sheet answers =
 
 unfoldable pub gatherText : (table sheet answers : List ℕ) → List ℕ
 gatherText table sheet answers =
-    unless (eqb (gatherNumber table sheet answers) 0) (refusedText (gatherNumber table sheet answers) 0)
+    unless (eqb (gatherNumber table sheet answers) 0) (refusedText (gatherNumber table sheet answers) 0 0)
     (sheetText (recordOf table sheet) (answersIn (recordOf table sheet .words) answers))

@@ -21,10 +21,10 @@ use Rattle.gathers.specs.LawsStored.{sheet-most}
 
 module _ (table sheet answers : List ℕ) where
   -- a text of a refused number
-  told : (number : ℕ) → gatherNumber table sheet answers ≡ number → (number ≡ 0 → ⊥) → refusedText number 0 ≡ gatherText table sheet answers
+  told : (number : ℕ) → gatherNumber table sheet answers ≡ number → (number ≡ 0 → ⊥) → refusedText number 0 0 ≡ gatherText table sheet answers
   unfolding gatherText
   told number e n =
-      ap (λ k. refusedText k 0) (sym e)
+      ap (λ k. refusedText k 0 0) (sym e)
       ∙ sym (pick-false _ _ _ (ne-eqb (gatherNumber table sheet answers) 0 (λ z. n (sym e ∙ z))))
 
   -- the number of a board without a record
@@ -33,14 +33,14 @@ module _ (table sheet answers : List ℕ) where
   unopened n = pick-false _ _ _ (ne-eqb (openNumber table sheet) 0 n)
 
   module _ (number : ℕ) (e : number ≡ openNumber table sheet) where
-    pub gather-refused : (number ≡ 0 → ⊥) → refusedText number 0 ≡ gatherText table sheet answers
+    pub gather-refused : (number ≡ 0 → ⊥) → refusedText number 0 0 ≡ gatherText table sheet answers
     gather-refused n = told number (unopened (λ z. n (e ∙ z)) ∙ sym e) n
 
     module _ (z : number ≡ 0) (d : Device) (is : d ≡ recordOf table sheet) where
       found : eqb (openNumber table sheet) 0 ≡ true
       found = eq-eqb (openNumber table sheet) 0 (sym e ∙ z)
 
-      pub gather-21 : answersOk (d .words) answers ≡ false → refusedText 21 0 ≡ gatherText table sheet answers
+      pub gather-21 : answersOk (d .words) answers ≡ false → refusedText 21 0 0 ≡ gatherText table sheet answers
       gather-21 f =
           told 21
           (unfold gatherNumber in pick-true _ _ _ found ∙ pick-false _ _ _ (ap (λ x. answersOk (x .words) answers) (sym is) ∙ f))
@@ -65,6 +65,6 @@ module _ (table sheet answers : List ℕ) where
   pub gather-short : length (gatherText table sheet answers) ≤ 46135
   unfolding gatherText
   gather-short =
-      either-short 46135 (omega arith) (gatherNumber table sheet answers) 0 _
+      either-short 46135 (omega arith) (gatherNumber table sheet answers) 0 0 _
       (λ z. rw (length-sheet (recordOf table sheet) (answersIn (recordOf table sheet .words) answers))
       (sheet-most (recordOf table sheet) (opened-sound table sheet (record-there z))))

@@ -20,11 +20,11 @@ pub fn gather(table: &[u8], sheet: &[u8], answers: &[u8], out: &mut [u8]) -> usi
 {
     let opened = board::open_record(table, sheet);
     if opened.number != 0 {
-        return print::refusal(out, opened.number, 0);
+        return print::refusal(out, opened.number, 0, 0);
     }
     let device = opened.device;
     if answers::lines_ok(device.words as usize, answers) {} else {
-        return print::refusal(out, 21, 0);
+        return print::refusal(out, 21, 0, 0);
     }
     put_sheet(device, answers, out)
 }

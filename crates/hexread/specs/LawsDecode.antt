@@ -17,7 +17,7 @@ use Rattle.words.specs.LawsChoice.{second-holds}
 use Rattle.numerals.specs.LawsHex.{joined-both, joined-no-high, joined-no-low, byte-short, no-digit}
 use Rattle.words.specs.LawsLists.{getD-build}
 use Rattle.hexread.specs.Line.{byteAt, countOf, offsetOf, typeOf, shapeOk, lineNumber}
-use Rattle.hexread.specs.Reader.{wordOf}
+use Rattle.hexread.specs.Step.{wordOf}
 use Rattle.hexread.specs.LawsLine.{ByteRead, OffsetRead, byte-most, sumRead, Summed, summed-none, summed-more, summed-bad, summed-all, kindNumber, right-sum}
 
 -- ---- two digits

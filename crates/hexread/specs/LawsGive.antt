@@ -15,13 +15,25 @@ use Rattle.words.specs.LawsWord.{is-word, not-word}
 use Rattle.device.specs.Memory.{readingTail, programmable}
 use Rattle.device.specs.LawsMemory.{programmable-lt}
 use Rattle.hexread.specs.Line.{countOf}
-use Rattle.hexread.specs.Reader.{wordOf, byteAddress, entryAt, entryOfWord, wordNumber, Reading, giveWords}
+use Rattle.hexread.specs.Step.{wordOf, byteAddress, entryAt, entryOfWord, wordNumber, Reading, giveWords}
+use Rattle.hexread.specs.Column.{refusedWord}
 use Rattle.hexread.specs.LawsLine.{OffsetRead}
 use Rattle.hexread.specs.LawsDecode.{OffsetOf, Sound, sound-count, sound-offset, sound-word}
 
 -- where a reading stands, by its four values
 abbrev pub reading : Bool → ℕ → List ℕ → ℕ → Reading
 reading ended upper image number = record { ended = ended; upper = upper; image = image; number = number }
+
+-- what giving words comes to: where the reading stands, and the first word that is not given
+pub record Gave : Type 0 where
+  pub after : Reading
+  pub word : ℕ
+
+abbrev pub gave : (words upper : ℕ) → List ℕ → (image : List ℕ) → (j n : ℕ) → Gave
+gave words upper line image j n = record { after = giveWords words upper line image j n; word = refusedWord words upper line image j n }
+
+abbrev pub stopped : (upper : ℕ) → (image : List ℕ) → (number word : ℕ) → Gave
+stopped upper image number word = record { after = reading false upper image number; word = word }
 
 -- where a list has an entry it reads the same, whatever it reads past its end
 pub getD-default : (l : List ℕ) (i d e : ℕ) → i < length l → getD l i d ≡ getD l i e
@@ -44,49 +56,49 @@ entry-read words upper line offset j entry b p o eb ep e =
 -- ---- one turn over the words that are left
 
 module _ (words upper : ℕ) (line image : List ℕ) where
-  pub give-none : (j n : ℕ) → n ≤ j → giveWords words upper line image j (n - j) ≡ reading false upper image 0
-  unfolding giveWords
+  pub give-none : (j n : ℕ) → n ≤ j → gave words upper line image j (n - j) ≡ stopped upper image 0 j
+  unfolding giveWords refusedWord
   give-none j n h = let z : n - j ≡ 0 = omega arith in rw z
 
   module _ (j n : ℕ) (left : j < n) where
     next : n - j ≡ suc (n - (j + 1))
     next = omega arith
 
-    give-stop : (k : ℕ) → wordNumber words upper line image j ≡ k → (k ≡ 0 → ⊥) → giveWords words upper line image j (n - j) ≡ reading false upper image k
-    unfolding giveWords pick
+    give-stop : (k : ℕ) → wordNumber words upper line image j ≡ k → (k ≡ 0 → ⊥) → gave words upper line image j (n - j) ≡ stopped upper image k j
+    unfolding giveWords refusedWord pick
     give-stop k e z = rw (next, e, ne-eqb k 0 z)
 
     give-on : wordNumber words upper line image j ≡ 0
-        → giveWords words upper line image j (n - j) ≡ giveWords words upper line (set image (entryOfWord words upper line j) (wordOf line j)) (j + 1) (n - (j + 1))
-    give-on e = rw next (unfold giveWords pick in rw e)
+        → gave words upper line image j (n - j) ≡ gave words upper line (set image (entryOfWord words upper line j) (wordOf line j)) (j + 1) (n - (j + 1))
+    give-on e = rw next (unfold giveWords refusedWord pick in rw e)
 
     module _ (entry : ℕ) (at : entry ≡ entryOfWord words upper line j) where
-      pub turn-7 : programmable words entry ≡ false → giveWords words upper line image j (n - j) ≡ reading false upper image 7
+      pub turn-7 : programmable words entry ≡ false → gave words upper line image j (n - j) ≡ stopped upper image 7 j
       turn-7 f = give-stop 7 (unfold wordNumber pick in rw (← at, f)) (λ z. omega arith)
 
       module _ (can : programmable words entry ≡ true) (word : ℕ) (w : word ≡ wordOf line j) where
-        pub turn-8 : 0x4000 ≤ word → giveWords words upper line image j (n - j) ≡ reading false upper image 8
+        pub turn-8 : 0x4000 ≤ word → gave words upper line image j (n - j) ≡ stopped upper image 8 j
         turn-8 h = give-stop 8 (unfold wordNumber pick in rw (← at, can, ← w, not-word word h)) (λ z. omega arith)
 
         module _ (low : word < 0x4000) (here : entry < length image) where
-          pub turn-9 : (getD image entry 0 ≡ notGiven → ⊥) → giveWords words upper line image j (n - j) ≡ reading false upper image 9
+          pub turn-9 : (getD image entry 0 ≡ notGiven → ⊥) → gave words upper line image j (n - j) ≡ stopped upper image 9 j
           turn-9 h =
               give-stop 9
               (unfold wordNumber pick in rw (← at, can, ← w, is-word word low, getD-default image entry notGiven 0 here, ne-eqb (getD image entry 0) notGiven h))
               (λ z. omega arith)
 
           pub turn-on : getD image entry 0 ≡ notGiven
-              → giveWords words upper line image j (n - j) ≡ giveWords words upper line (set image entry word) (j + 1) (n - (j + 1))
+              → gave words upper line image j (n - j) ≡ gave words upper line (set image entry word) (j + 1) (n - (j + 1))
           turn-on h =
               give-on (unfold wordNumber pick in rw (← at, can, ← w, is-word word low, getD-default image entry notGiven 0 here, eq-eqb (getD image entry 0) notGiven h))
               ∙ rw (at, w)
 
 -- ---- the loop over a record's words
 
--- what giving words comes to, whatever line the bytes are those of
-abbrev pub Gives : (words upper : ℕ) → (bytes image₀ image : List ℕ) → ℕ → Type 0
-Gives words upper bytes image₀ image number =
-    (line : List ℕ) → Sound line bytes → reading false upper image number ≡ giveWords words upper line image₀ 0 (countOf line / 2)
+-- the same of all words of a record, whatever line the bytes are those of
+abbrev pub Gives : (words upper : ℕ) → (bytes image₀ image : List ℕ) → (number word : ℕ) → Type 0
+Gives words upper bytes image₀ image number word =
+    (line : List ℕ) → Sound line bytes → stopped upper image number word ≡ gave words upper line image₀ 0 (countOf line / 2)
 
 -- j of n words are given
 pub record Giving (words upper : ℕ) (bytes image₀ : List ℕ) (offset n : ℕ) (image : List ℕ) (j : ℕ) : Type 0 where
@@ -96,7 +108,7 @@ pub record Giving (words upper : ℕ) (bytes image₀ : List ℕ) (offset n : �
   pub long : length image ≡ words + readingTail
   pub kept : length image ≡ length image₀
   pub start : OffsetOf bytes offset
-  pub rest : (line : List ℕ) → Sound line bytes → giveWords words upper line image j (n - j) ≡ giveWords words upper line image₀ 0 (countOf line / 2)
+  pub rest : (line : List ℕ) → Sound line bytes → gave words upper line image j (n - j) ≡ gave words upper line image₀ 0 (countOf line / 2)
 
 module _ (words upper : ℕ) (bytes image₀ : List ℕ) (offset : ℕ) where
   pub giving-none : OffsetOf bytes offset → getD bytes 0 0 < 256 → length image₀ ≡ words + readingTail → Giving words upper bytes image₀ offset (getD bytes 0 0 / 2) image₀ 0
@@ -113,7 +125,7 @@ module _ (words upper : ℕ) (bytes image₀ : List ℕ) (offset : ℕ) where
       }
 
   module _ (n : ℕ) (image : List ℕ) (j : ℕ) (g : Giving words upper bytes image₀ offset n image j) where
-    pub giving-all : n ≤ j → Gives words upper bytes image₀ image 0
+    pub giving-all : n ≤ j → Gives words upper bytes image₀ image 0 j
     giving-all h line s = sym (give-none words upper line image j n h) ∙ g .rest line s
 
     module _ (left : j < n) (b : ByteAddress) (eb : b ≡ record { 0 = upper * 65536 + offset + 2 * j }) (p : Place) (ep : p ≡ halved b) (entry : ℕ) (e : entry ≡ entryAt words p) where
@@ -121,7 +133,7 @@ module _ (words upper : ℕ) (bytes image₀ : List ℕ) (offset : ℕ) where
       at line s = entry-read words upper line offset j entry b p (sound-offset line bytes s offset (g .start)) eb ep e
 
       module _ (can : Bool) (ec : can ≡ programmable words entry) where
-        pub giving-7 : can ≡ false → Gives words upper bytes image₀ image 7
+        pub giving-7 : can ≡ false → Gives words upper bytes image₀ image 7 j
         giving-7 f line s = sym (turn-7 words upper line image j n left entry (at line s) (sym ec ∙ f)) ∙ g .rest line s
 
         module _ (t : can ≡ true) where
@@ -132,11 +144,11 @@ module _ (words upper : ℕ) (bytes image₀ : List ℕ) (offset : ℕ) where
             is : (line : List ℕ) → Sound line bytes → word ≡ wordOf line j
             is line s = sound-word line bytes s j word (rw (g .size) at left) w
 
-            pub giving-8 : 0x4000 ≤ word → Gives words upper bytes image₀ image 8
+            pub giving-8 : 0x4000 ≤ word → Gives words upper bytes image₀ image 8 j
             giving-8 h line s = sym (turn-8 words upper line image j n left entry (at line s) (sym ec ∙ t) word (is line s) h) ∙ g .rest line s
 
             module _ (low : word < 0x4000) where
-              pub giving-9 : (getD image entry 0 ≡ notGiven → ⊥) → Gives words upper bytes image₀ image 9
+              pub giving-9 : (getD image entry 0 ≡ notGiven → ⊥) → Gives words upper bytes image₀ image 9 j
               giving-9 h line s = sym (turn-9 words upper line image j n left entry (at line s) (sym ec ∙ t) word (is line s) low entry-lt h) ∙ g .rest line s
 
               pub giving-on : getD image entry 0 ≡ notGiven → Giving words upper bytes image₀ offset n (set image entry word) (j + 1)

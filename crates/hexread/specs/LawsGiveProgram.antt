@@ -15,9 +15,9 @@ use Rattle.words.specs.LawsAddress.{placed-at, placed-nowhere, halved-doubled, 
 use Rattle.device.specs.Memory.{readingTail, programmable}
 use Rattle.device.specs.LawsMemory.{programmable-low}
 use Rattle.hexread.specs.Line.{countOf, offsetOf}
-use Rattle.hexread.specs.Reader.{wordOf, byteAddress, entryAt, entryOfWord, giveWords}
+use Rattle.hexread.specs.Step.{wordOf, byteAddress, entryAt, entryOfWord, giveWords}
 use Rattle.hexread.specs.LawsDecode.{OffsetOf, Sound, sound-count, sound-offset, sound-word}
-use Rattle.hexread.specs.LawsGive.{Gives, entry-read, give-none, turn-8, turn-9, turn-on}
+use Rattle.hexread.specs.LawsGive.{gave, Gives, entry-read, give-none, turn-8, turn-9, turn-on}
 
 -- ---- entries below the end of program space
 
@@ -99,11 +99,12 @@ pub record GivingProgram (bytes image₀ : List ℕ) (first n : ℕ) (image : Li
   pub kept : length image ≡ length image₀
   pub room : first + n ≤ length image
   pub rest : (words upper : ℕ) → InProgram words upper bytes first n
-      → (line : List ℕ) → Sound line bytes → giveWords words upper line image j (n - j) ≡ giveWords words upper line image₀ 0 (countOf line / 2)
+      → (line : List ℕ) → Sound line bytes → gave words upper line image j (n - j) ≡ gave words upper line image₀ 0 (countOf line / 2)
 
 -- what giving them comes to, for every device and upper half under which they are program words
-abbrev pub GivesProgram : (bytes image₀ : List ℕ) (first n : ℕ) (image : List ℕ) → ℕ → Type 0
-GivesProgram bytes image₀ first n image number = (words upper : ℕ) → InProgram words upper bytes first n → Gives words upper bytes image₀ image number
+abbrev pub GivesProgram : (bytes image₀ : List ℕ) (first n : ℕ) (image : List ℕ) → (number word : ℕ) → Type 0
+GivesProgram bytes image₀ first n image number word =
+    (words upper : ℕ) → InProgram words upper bytes first n → Gives words upper bytes image₀ image number word
 
 module _ (bytes image₀ : List ℕ) (first n : ℕ) where
   pub program-none : n < 128 → first + n ≤ length image₀ → GivingProgram bytes image₀ first n image₀ 0
@@ -112,7 +113,7 @@ module _ (bytes image₀ : List ℕ) (first n : ℕ) where
       record { done = omega arith; few = f; kept = refl; room = r; rest = λ words upper p line s. rw (all, p .size, sound-count line bytes s) }
 
   module _ (image : List ℕ) (j : ℕ) (g : GivingProgram bytes image₀ first n image j) where
-    pub program-all : n ≤ j → GivesProgram bytes image₀ first n image 0
+    pub program-all : n ≤ j → GivesProgram bytes image₀ first n image 0 j
     program-all h words upper p line s = sym (give-none words upper line image j n h) ∙ g .rest words upper p line s
 
     module _ (left : j < n) (word : ℕ) (w : word ≡ getD bytes (4 + 2 * j) 0 + 256 * getD bytes (5 + 2 * j) 0) where
@@ -128,7 +129,7 @@ module _ (bytes image₀ : List ℕ) (first n : ℕ) where
         is : word ≡ wordOf line j
         is = sound-word line bytes s j word (rw (p .size) at left) w
 
-      pub program-8 : 0x4000 ≤ word → GivesProgram bytes image₀ first n image 8
+      pub program-8 : 0x4000 ≤ word → GivesProgram bytes image₀ first n image 8 j
       program-8 h words upper p line s =
           sym (turn-8 words upper line image j n left (first + j) (at words upper p line s) (can words upper p line s) word (is words upper p line s) h)
           ∙ g .rest words upper p line s
@@ -137,7 +138,7 @@ module _ (bytes image₀ : List ℕ) (first n : ℕ) where
         here : first + j < length image
         here = omega (arith, g .room)
 
-        pub program-9 : (getD image (first + j) 0 ≡ notGiven → ⊥) → GivesProgram bytes image₀ first n image 9
+        pub program-9 : (getD image (first + j) 0 ≡ notGiven → ⊥) → GivesProgram bytes image₀ first n image 9 j
         program-9 h words upper p line s =
             sym (turn-9 words upper line image j n left (first + j) (at words upper p line s) (can words upper p line s) word (is words upper p line s) low here h)
             ∙ g .rest words upper p line s

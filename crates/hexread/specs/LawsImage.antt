@@ -19,7 +19,9 @@ use Rattle.device.specs.Memory.{readingTail, programmable, entryOk, imageOk}
 use Rattle.device.specs.LawsMemory.{programmable-lt, entry-none, entry-given, image-long, image-each, image-of}
 use Rattle.lines.specs.Lines.{linesOf}
 use Rattle.hexread.specs.Line.{byteAt, countOf, typeOf, lineNumber}
-use Rattle.hexread.specs.Reader.{mostText, wordOf, entryOfWord, wordNumber, Reading, giveWords, recordStep, lineRefused, lineStep, blankImage, refusedAt, readLines, begun, textRead}
+use Rattle.hexread.specs.Step.{wordOf, entryOfWord, wordNumber, Reading, giveWords, recordStep, lineRefused, lineStep}
+use Rattle.hexread.specs.Column.{lineColumn}
+use Rattle.hexread.specs.Reader.{mostText, blankImage, refusedAt, readLines, begun, textRead}
 
 -- ---- a word given keeps an image sound
 
@@ -106,13 +108,13 @@ pub lines-ok : (words : ℕ) (ls : List (List ℕ)) (k : ℕ) (r : Reading) → 
 unfolding readLines refusedAt
 lines-ok words [] k r e = by (r .ended)
   where
-    by : (t : Bool) → Sound words (pick t (record { number = 0; line = 0; image = r .image }) (refusedAt words 10 0) .image)
+    by : (t : Bool) → Sound words (pick t (record { number = 0; line = 0; column = 0; image = r .image }) (refusedAt words 10 0 0) .image)
     by true = unfold pick in e
     by false = unfold pick in blank-ok words
 lines-ok words (l ∷ ls) k r e = by (eqb (lineStep words l r .number) 0) (lines-ok words ls (k + 1) (lineStep words l r) (step-ok words l r e))
   where
     by : (t : Bool) → Sound words (readLines words ls (k + 1) (lineStep words l r) .image)
-        → Sound words (pick t (readLines words ls (k + 1) (lineStep words l r)) (refusedAt words (lineStep words l r .number) k) .image)
+        → Sound words (pick t (readLines words ls (k + 1) (lineStep words l r)) (refusedAt words (lineStep words l r .number) k (lineColumn words l r)) .image)
     by true rest = unfold pick in rest
     by false rest = unfold pick in blank-ok words
 
@@ -130,8 +132,8 @@ unfolding textRead refusedAt
 read-tells d text image e = by (deviceOk d) (eqb (length image) (d .words + readingTail)) (leb (length text) mostText) refl refl refl e
   where
     by : (t u v : Bool) → deviceOk d ≡ t → eqb (length image) (d .words + readingTail) ≡ u → leb (length text) mostText ≡ v
-        → pick t (pick u (pick v (readLines (d .words) (linesOf text) 1 (begun (d .words))) (refusedAt (d .words) 1 0)) (record { number = 12; line = 0; image = image }))
-        (record { number = 13; line = 0; image = image }) .number ≡ 0
+        → pick t (pick u (pick v (readLines (d .words) (linesOf text) 1 (begun (d .words))) (refusedAt (d .words) 1 0 0)) (record { number = 12; line = 0; column = 0; image = image }))
+        (record { number = 13; line = 0; column = 0; image = image }) .number ≡ 0
         → Told d text image
     by true true true p q w z =
         record {

@@ -12,7 +12,9 @@ use Rattle.words.specs.Choice.{pick}
 use Rattle.numerals.specs.Text.{cr, split, inFront}
 use Rattle.words.specs.LawsChoice.{both, first-holds, second-holds, true-not-false}
 use Rattle.lines.specs.Lines.{withoutCr}
-use Rattle.hexread.specs.Reader.{Reading, lineStep, refusedAt, readLines}
+use Rattle.hexread.specs.Step.{Reading, lineStep}
+use Rattle.hexread.specs.Column.{lineColumn}
+use Rattle.hexread.specs.Reader.{refusedAt, readLines}
 use Rattle.hexread.specs.LawsReader.{lines-on}
 
 -- ---- a text that begins with a line
@@ -87,8 +89,8 @@ module _ (words : ℕ) (ms : List (List ℕ)) where
     where
       by : (t : Bool) → (t && allTaken words ls (lineStep words l r)) ≡ false
           → (allTaken words ls (lineStep words l r) ≡ false → readLines words (ls ++ ms) (k + 1) (lineStep words l r) ≡ readLines words ls (k + 1) (lineStep words l r))
-          → pick t (readLines words (ls ++ ms) (k + 1) (lineStep words l r)) (refusedAt words (lineStep words l r .number) k)
-          ≡ pick t (readLines words ls (k + 1) (lineStep words l r)) (refusedAt words (lineStep words l r .number) k)
+          → pick t (readLines words (ls ++ ms) (k + 1) (lineStep words l r)) (refusedAt words (lineStep words l r .number) k (lineColumn words l r))
+          ≡ pick t (readLines words ls (k + 1) (lineStep words l r)) (refusedAt words (lineStep words l r .number) k (lineColumn words l r))
       by true q rest = rest q
       by false q rest = refl
 

@@ -20,7 +20,9 @@ use Rattle.device.specs.Memory.{readingTail}
 use Rattle.lines.specs.Lines.{linesOf, lineAt, endOf}
 use Rattle.lines.specs.LawsLine.{lines-of-nothing, lines-left, end-most, end-least}
 use Rattle.hexread.specs.Line.{countOf, typeOf, lineNumber}
-use Rattle.hexread.specs.Reader.{mostText, Reading, giveWords, recordStep, lineRefused, lineStep, blankImage, Outcome, refusedAt, readLines, begun, textRead, readAnswer, HexRead}
+use Rattle.hexread.specs.Step.{Reading, giveWords, recordStep, lineRefused, lineStep}
+use Rattle.hexread.specs.Column.{lineColumn}
+use Rattle.hexread.specs.Reader.{mostText, blankImage, Outcome, refusedAt, readLines, begun, textRead, readAnswer, HexRead}
 use Rattle.hexread.specs.LawsLine.{ByteRead}
 use Rattle.hexread.specs.LawsGive.{reading}
 use Rattle.hexread.specs.declared.ReadHex.{ReadHex}
@@ -76,7 +78,7 @@ module _ (words : ℕ) (l : List ℕ) (ls : List (List ℕ)) (k : ℕ) (r : Read
   pub lines-on : lineStep words l r .number ≡ 0 → readLines words (l ∷ ls) k r ≡ readLines words ls (k + 1) (lineStep words l r)
   lines-on e = unfold readLines in pick-true (eqb (lineStep words l r .number) 0) _ _ (eq-eqb (lineStep words l r .number) 0 e)
 
-  pub lines-stop : (lineStep words l r .number ≡ 0 → ⊥) → readLines words (l ∷ ls) k r ≡ refusedAt words (lineStep words l r .number) k
+  pub lines-stop : (lineStep words l r .number ≡ 0 → ⊥) → readLines words (l ∷ ls) k r ≡ refusedAt words (lineStep words l r .number) k (lineColumn words l r)
   lines-stop n = unfold readLines in pick-false (eqb (lineStep words l r .number) 0) _ _ (ne-eqb (lineStep words l r .number) 0 n)
 
 -- no line left, or none but an empty one, whatever its number
@@ -84,26 +86,30 @@ pub lines-empty : (words k : ℕ) (r : Reading) → r .number ≡ 0 → readLine
 lines-empty words k r e =
     lines-on words [] [] k r (ap (λ s. s .number) (step-skips words r) ∙ e) ∙ ap (readLines words [] (k + 1)) (step-skips words r)
 
-module _ (words number line : ℕ) where
-  pub refused-number : refusedAt words number line .number ≡ number
+module _ (words number line column : ℕ) where
+  pub refused-number : refusedAt words number line column .number ≡ number
   unfolding refusedAt
   refused-number = refl
 
-  pub refused-line : refusedAt words number line .line ≡ line
+  pub refused-line : refusedAt words number line column .line ≡ line
   unfolding refusedAt
   refused-line = refl
 
-  pub refused-image : refusedAt words number line .image ≡ blankImage words
+  pub refused-column : refusedAt words number line column .column ≡ column
+  unfolding refusedAt
+  refused-column = refl
+
+  pub refused-image : refusedAt words number line column .image ≡ blankImage words
   unfolding refusedAt
   refused-image = refl
 
 -- after the last line: an end record was seen, or none
 module _ (words k : ℕ) (r : Reading) where
-  pub lines-whole : r .ended ≡ true → readLines words [] k r ≡ record { number = 0; line = 0; image = r .image }
+  pub lines-whole : r .ended ≡ true → readLines words [] k r ≡ record { number = 0; line = 0; column = 0; image = r .image }
   unfolding readLines
   lines-whole t = pick-true (r .ended) _ _ t
 
-  pub lines-open : r .ended ≡ false → readLines words [] k r ≡ refusedAt words 10 0
+  pub lines-open : r .ended ≡ false → readLines words [] k r ≡ refusedAt words 10 0 0
   unfolding readLines
   lines-open f = pick-false (r .ended) _ _ f
 
@@ -134,19 +140,20 @@ module _ (text : List ℕ) (at : ℕ) (within : at ≤ length text) (words k : �
           ∙ (sym (lines-empty words (k + 1) after z)
           ∙ ap (λ ls. readLines words ls (k + 1) after) (sym (ap linesOf past ∙ lines-of-nothing))))))
 
-  pub left-stop : (after .number ≡ 0 → ⊥) → readLines words (linesOf (drop at text)) k now ≡ refusedAt words (after .number) k
+  pub left-stop : (after .number ≡ 0 → ⊥) → readLines words (linesOf (drop at text)) k now ≡ refusedAt words (after .number) k (lineColumn words (lineAt text at) now)
   left-stop z = by (lines-left text at within)
     where
       some : lineStep words (lineAt text at) now .number ≡ 0 → ⊥
       some q = z (ap (λ s. s .number) step ∙ q)
 
-      stops : (ls : List (List ℕ)) → linesOf (drop at text) ≡ lineAt text at ∷ ls → readLines words (linesOf (drop at text)) k now ≡ refusedAt words (after .number) k
+      stops : (ls : List (List ℕ)) → linesOf (drop at text) ≡ lineAt text at ∷ ls
+          → readLines words (linesOf (drop at text)) k now ≡ refusedAt words (after .number) k (lineColumn words (lineAt text at) now)
       stops ls e =
           ap (λ ms. readLines words ms k now) e
-          ∙ (lines-stop words (lineAt text at) ls k now some ∙ ap (λ s. refusedAt words (s .number) k) (sym step))
+          ∙ (lines-stop words (lineAt text at) ls k now some ∙ ap (λ s. refusedAt words (s .number) k (lineColumn words (lineAt text at) now)) (sym step))
 
       by : (linesOf (drop at text) ≡ lineAt text at ∷ linesOf (drop (endOf text at + 1) text)) ⊎ ((linesOf (drop at text) ≡ lineAt text at ∷ []) × (length text ≤ endOf text at))
-          → readLines words (linesOf (drop at text)) k now ≡ refusedAt words (after .number) k
+          → readLines words (linesOf (drop at text)) k now ≡ refusedAt words (after .number) k (lineColumn words (lineAt text at) now)
       by (inl e) = stops (linesOf (drop (endOf text at + 1) text)) e
       by (inr e) = stops [] (e .0)
 
@@ -170,10 +177,11 @@ pub record Ahead (words : ℕ) (text image₀ : List ℕ) (at line : ℕ) (ended
   pub rest : readLines words (linesOf (drop at text)) line (reading ended upper image 0) ≡ outcome words text image₀
 
 -- what the loop answers; the image of a refused text is of no use
-pub record LinesRead (words : ℕ) (text image₀ : List ℕ) (number line : ℕ) (image : List ℕ) : Type 0 where
-  pub number-is : number ≡ outcome words text image₀ .number
-  pub line-is : line ≡ outcome words text image₀ .line
-  pub image-is : number ≡ 0 → image ≡ outcome words text image₀ .image
+pub record LinesRead (words : ℕ) (text image₀ : List ℕ) (r : ReadHex) (image : List ℕ) : Type 0 where
+  pub number-is : r .number ≡ outcome words text image₀ .number
+  pub line-is : r .line ≡ outcome words text image₀ .line
+  pub column-is : r .column ≡ outcome words text image₀ .column
+  pub image-is : r .number ≡ 0 → image ≡ outcome words text image₀ .image
 
 module _ (words : ℕ) (text image₀ : List ℕ) where
   pub ahead-all : length text ≤ mostText → length image₀ ≡ words + readingTail → Ahead words text image₀ 0 1 false 0 image₀
@@ -200,13 +208,16 @@ module _ (words : ℕ) (text image₀ : List ℕ) where
             rest = sym (left-on text at here words line (reading ended upper image 0) (reading ended′ upper′ image′ 0) (same ∙ step) refl) ∙ a .rest;
           }
 
-      pub lines-refused : (number ≡ 0 → ⊥) → LinesRead words text image₀ number line image′
-      lines-refused n =
-          let out : refusedAt words number line ≡ outcome words text image₀ =
-          sym (left-stop text at here words line (reading ended upper image 0) (reading ended′ upper′ image′ number) step n) ∙ a .rest in
+      pub lines-refused : (number ≡ 0 → ⊥) → (column : ℕ) → column ≡ lineColumn words (lineAt text at) (reading ended upper image 0)
+          → LinesRead words text image₀ (record { number = number; line = line; column = column }) image′
+      lines-refused n column c =
+          let out : refusedAt words number line column ≡ outcome words text image₀ =
+          ap (refusedAt words number line) c
+          ∙ (sym (left-stop text at here words line (reading ended upper image 0) (reading ended′ upper′ image′ number) step n) ∙ a .rest) in
           record {
-            number-is = sym (refused-number words number line) ∙ ap (λ o. o .number) out;
-            line-is = sym (refused-line words number line) ∙ ap (λ o. o .line) out;
+            number-is = sym (refused-number words number line column) ∙ ap (λ o. o .number) out;
+            line-is = sym (refused-line words number line column) ∙ ap (λ o. o .line) out;
+            column-is = sym (refused-column words number line column) ∙ ap (λ o. o .column) out;
             image-is = λ z. absurd (n z);
           }
 
@@ -214,19 +225,25 @@ module _ (words : ℕ) (text image₀ : List ℕ) where
       ends : readLines words [] (line + 1) (reading ended upper image 0) ≡ outcome words text image₀
       ends = sym (left-none text at words line (reading ended upper image 0) done refl) ∙ a .rest
 
-      pub lines-ended : ended ≡ true → LinesRead words text image₀ 0 0 image
+      pub lines-ended : ended ≡ true → LinesRead words text image₀ (record { number = 0; line = 0; column = 0 }) image
       lines-ended t =
-          let out : _≡_ {A = Outcome} (record { number = 0; line = 0; image = image }) (outcome words text image₀) =
+          let out : _≡_ {A = Outcome} (record { number = 0; line = 0; column = 0; image = image }) (outcome words text image₀) =
           sym (lines-whole words (line + 1) (reading ended upper image 0) t) ∙ ends in
-          record { number-is = ap (λ o. o .number) out; line-is = ap (λ o. o .line) out; image-is = λ z. ap (λ o. o .image) out }
+          record {
+            number-is = ap (λ o. o .number) out;
+            line-is = ap (λ o. o .line) out;
+            column-is = ap (λ o. o .column) out;
+            image-is = λ z. ap (λ o. o .image) out;
+          }
 
-      pub lines-not-ended : ended ≡ false → LinesRead words text image₀ 10 0 image
+      pub lines-not-ended : ended ≡ false → LinesRead words text image₀ (record { number = 10; line = 0; column = 0 }) image
       lines-not-ended f =
-          let out : refusedAt words 10 0 ≡ outcome words text image₀ =
+          let out : refusedAt words 10 0 0 ≡ outcome words text image₀ =
           sym (lines-open words (line + 1) (reading ended upper image 0) f) ∙ ends in
           record {
-            number-is = sym (refused-number words 10 0) ∙ ap (λ o. o .number) out;
-            line-is = sym (refused-line words 10 0) ∙ ap (λ o. o .line) out;
+            number-is = sym (refused-number words 10 0 0) ∙ ap (λ o. o .number) out;
+            line-is = sym (refused-line words 10 0 0) ∙ ap (λ o. o .line) out;
+            column-is = sym (refused-column words 10 0 0) ∙ ap (λ o. o .column) out;
             image-is = λ z. absurd (omega arith);
           }
 
@@ -265,7 +282,7 @@ refused-blank words [] k r n = by (decided (r .ended))
   where
     by : (r .ended ≡ true) ⊎ (r .ended ≡ false) → readLines words [] k r .image ≡ blankImage words
     by (inl t) = absurd (n (ap (λ o. o .number) (lines-whole words k r t)))
-    by (inr f) = ap (λ o. o .image) (lines-open words k r f) ∙ refused-image words 10 0
+    by (inr f) = ap (λ o. o .image) (lines-open words k r f) ∙ refused-image words 10 0 0
 refused-blank words (l ∷ ls) k r n = by (ℕ-discrete (lineStep words l r .number) 0) (refused-blank words ls (k + 1) (lineStep words l r))
   where
     by : Dec (lineStep words l r .number ≡ 0)
@@ -274,23 +291,29 @@ refused-blank words (l ∷ ls) k r n = by (ℕ-discrete (lineStep words l r .num
     by (yes e) rest =
         let on : readLines words (l ∷ ls) k r ≡ readLines words ls (k + 1) (lineStep words l r) = lines-on words l ls k r e in
         ap (λ o. o .image) on ∙ rest (λ z. n (ap (λ o. o .number) on ∙ z))
-    by (no e) rest = ap (λ o. o .image) (lines-stop words l ls k r e) ∙ refused-image words (lineStep words l r .number) k
+    by (no e) rest = ap (λ o. o .image) (lines-stop words l ls k r e) ∙ refused-image words (lineStep words l r .number) k (lineColumn words l r)
 
 module _ (d : Device) (text image : List ℕ) where
-  answered : (o : Outcome) (image′ : List ℕ) (r : ReadHex) → textRead d text image ≡ o → r .number ≡ o .number → r .line ≡ o .line → image′ ≡ o .image → HexRead d text image r image′
+  answered : (o : Outcome) (image′ : List ℕ) (r : ReadHex) → textRead d text image ≡ o → r .number ≡ o .number → r .line ≡ o .line → r .column ≡ o .column → image′ ≡ o .image
+      → HexRead d text image r image′
   unfolding readAnswer
-  answered o image′ r e n l i =
+  answered o image′ r e n l c i =
       record {
-        answer = λ k. record { number = (n ∙ ap (λ x. x .number) (sym e)) k; line = (l ∙ ap (λ x. x .line) (sym e)) k };
+        answer =
+            λ k. record {
+              number = (n ∙ ap (λ x. x .number) (sym e)) k;
+              line = (l ∙ ap (λ x. x .line) (sym e)) k;
+              column = (c ∙ ap (λ x. x .column) (sym e)) k;
+            };
         image-is = i ∙ ap (λ x. x .image) (sym e);
       }
 
-  pub hex-13 : deviceOk d ≡ false → HexRead d text image (record { number = 13; line = 0 }) image
-  hex-13 f = answered (record { number = 13; line = 0; image = image }) image _ (unfold textRead in pick-false (deviceOk d) _ _ f) refl refl refl
+  pub hex-13 : deviceOk d ≡ false → HexRead d text image (record { number = 13; line = 0; column = 0 }) image
+  hex-13 f = answered (record { number = 13; line = 0; column = 0; image = image }) image _ (unfold textRead in pick-false (deviceOk d) _ _ f) refl refl refl refl
 
   module _ (sound : deviceOk d ≡ true) where
-    pub hex-12 : (length image ≡ d .words + readingTail → ⊥) → HexRead d text image (record { number = 12; line = 0 }) image
-    hex-12 n = answered (record { number = 12; line = 0; image = image }) image _ (unfold textRead pick in rw (sound, ne-eqb (length image) (d .words + readingTail) n)) refl refl refl
+    pub hex-12 : (length image ≡ d .words + readingTail → ⊥) → HexRead d text image (record { number = 12; line = 0; column = 0 }) image
+    hex-12 n = answered (record { number = 12; line = 0; column = 0; image = image }) image _ (unfold textRead pick in rw (sound, ne-eqb (length image) (d .words + readingTail) n)) refl refl refl refl
 
     module _ (long : length image ≡ d .words + readingTail) where
       cleared : (l : List ℕ) → l ≡ replicate (length image) notGiven → l ≡ blankImage (d .words)
@@ -302,24 +325,25 @@ module _ (d : Device) (text image : List ℕ) where
       unfolding textRead pick begun
       read-begins h = rw (sound, eq-eqb (length image) (d .words + readingTail) long, le-leb (length text) mostText h)
 
-      pub hex-1 : mostText < length text → (image′ : List ℕ) → image′ ≡ replicate (length image) notGiven → HexRead d text image (record { number = 1; line = 0 }) image′
+      pub hex-1 : mostText < length text → (image′ : List ℕ) → image′ ≡ replicate (length image) notGiven → HexRead d text image (record { number = 1; line = 0; column = 0 }) image′
       hex-1 h image′ c =
-          answered (refusedAt (d .words) 1 0) image′ _ (unfold textRead pick in rw (sound, eq-eqb (length image) (d .words + readingTail) long, lt-leb (length text) mostText h))
-          (sym (refused-number (d .words) 1 0)) (sym (refused-line (d .words) 1 0)) (cleared image′ c ∙ sym (refused-image (d .words) 1 0))
+          answered (refusedAt (d .words) 1 0 0) image′ _ (unfold textRead pick in rw (sound, eq-eqb (length image) (d .words + readingTail) long, lt-leb (length text) mostText h))
+          (sym (refused-number (d .words) 1 0 0)) (sym (refused-line (d .words) 1 0 0)) (sym (refused-column (d .words) 1 0 0))
+          (cleared image′ c ∙ sym (refused-image (d .words) 1 0 0))
 
       module _ (short : length text ≤ mostText) (image₁ : List ℕ) (c₁ : image₁ ≡ replicate (length image) notGiven) (r : ReadHex) (image₂ : List ℕ)
-          (o : LinesRead (d .words) text image₁ (r .number) (r .line) image₂) where
+          (o : LinesRead (d .words) text image₁ r image₂) where
         read-is : textRead d text image ≡ outcome (d .words) text image₁
         read-is =
             read-begins short
             ∙ ap (λ l. readLines (d .words) (linesOf text) 1 (reading false 0 l 0)) (sym (cleared image₁ c₁))
 
         pub hex-read : r .number ≡ 0 → HexRead d text image r image₂
-        hex-read z = answered (outcome (d .words) text image₁) image₂ r read-is (o .number-is) (o .line-is) (o .image-is z)
+        hex-read z = answered (outcome (d .words) text image₁) image₂ r read-is (o .number-is) (o .line-is) (o .column-is) (o .image-is z)
 
         pub hex-refused : (r .number ≡ 0 → ⊥) → (image₃ : List ℕ) → length image₂ ≡ length image₁ → image₃ ≡ replicate (length image₂) notGiven → HexRead d text image r image₃
         hex-refused n image₃ k c₃ =
             let same : length image₂ ≡ length image = k ∙ (ap length c₁ ∙ length-replicate (length image) notGiven) in
-            answered (outcome (d .words) text image₁) image₃ r read-is (o .number-is) (o .line-is)
+            answered (outcome (d .words) text image₁) image₃ r read-is (o .number-is) (o .line-is) (o .column-is)
             (cleared image₃ (c₃ ∙ ap (λ m. replicate m notGiven) same)
             ∙ sym (refused-blank (d .words) (linesOf text) 1 (reading false 0 image₁ 0) (λ z. n (o .number-is ∙ z))))

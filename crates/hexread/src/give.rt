@@ -8,21 +8,23 @@ use words::Place;
 use words::WORD_LIMIT;
 use words::WordAddress;
 ghost use mathlib.Core.Path.{_≡_};
-ghost use mathlib.Core.Bool.{false};
-ghost use mathlib.Core.List.{List};
-ghost use Prim.Native.Nat.{ℕ, _+_, _*_, _/_, _<_};
+ghost use Prim.Native.Nat.{_+_, _*_, _<_};
 ghost use lib.ListN.{length, getD};
 ghost use Rattle.device.specs.Memory.{readingTail};
-ghost use Rattle.hexread.specs.Line.{countOf};
-ghost use Rattle.hexread.specs.Reader.{entryAt, giveWords};
-ghost use Rattle.hexread.specs.LawsDecode.{Sound};
-ghost use Rattle.hexread.specs.LawsGive.{reading};
+ghost use Rattle.hexread.specs.Step.{entryAt};
+ghost use Rattle.hexread.specs.LawsGive.{Gives};
 ghost use Rattle.hexread.specs.LawsGiveProgram.{FirstEntry};
 
-// Gives words until one is refused: 0, or the first of 7, 8, 9 that holds, whatever line the bytes are those of.
-pub(crate) fn give_words(words: u16, upper: u32, bytes: &[u8], image: &mut [u16]) -> u8
+// 0, or the first of 7, 8, 9 that holds, and the word that is refused; with 0, how many words there are.
+pub(crate) struct Given {
+    pub number: u8,
+    pub word: u8,
+}
+
+// Gives words until one is refused, whatever line the bytes are those of.
+pub(crate) fn give_words(words: u16, upper: u32, bytes: &[u8], image: &mut [u16]) -> Given
     requires { ⌜ (length (now bytes) ≡ 260) × (length (now image) ≡ words + readingTail) ⌝ }
-    ensures { λ r. ⌜ ((line : List ℕ) → Sound line (now (bytes .entry)) → reading false upper (now (image .exit)) r ≡ giveWords words upper line (now (image .entry)) 0 (countOf line / 2)) ⌝ }
+    ensures { λ r. ⌜ Gives words upper (now (bytes .entry)) (now (image .entry)) (now (image .exit)) (r .number) (r .word) ⌝ }
 {
     let offset = offset_of(bytes);
     let n = bytes[0] / 2;
@@ -30,19 +32,19 @@ pub(crate) fn give_words(words: u16, upper: u32, bytes: &[u8], image: &mut [u16]
     while j < n {
         let entry = entry_at(words, words::address::halve(byte_address(upper, offset, j)));
         if device::programmable(words, entry) {} else {
-            return 7;
+            return Given { number: 7, word: j };
         }
         let word = word_of(bytes, j);
         if WORD_LIMIT <= word {
-            return 8;
+            return Given { number: 8, word: j };
         }
         if image[entry] != NOT_GIVEN {
-            return 9;
+            return Given { number: 9, word: j };
         }
         image[entry] = word;
         j += 1;
     }
-    0
+    Given { number: 0, word: j }
 }
 
 // The address of the first byte of word j, where nothing wraps at 64 KiB.

@@ -1,4 +1,5 @@
 // Words of a data record that all lie in program space, where the entries follow one another as the words do.
+use crate::give::Given;
 use crate::give::word_at;
 use words::NOT_GIVEN;
 use words::WORD_LIMIT;
@@ -8,22 +9,31 @@ ghost use lib.ListN.{length};
 ghost use Rattle.hexread.specs.LawsGive.{Gives};
 ghost use Rattle.hexread.specs.LawsGiveProgram.{InProgram};
 
-// Gives n words to the entries from `first` on, until one is refused: 0, or the first of 8, 9 that holds.
-pub(crate) fn give_program(first: usize, n: usize, bytes: &[u8], image: &mut [u16]) -> u8
+// Gives n words to the entries from `first` on, until one is refused, which cannot be with 7.
+pub(crate) fn give_program(first: usize, n: usize, bytes: &[u8], image: &mut [u16]) -> Given
     requires { ⌜ (length (now bytes) ≡ 260) × (n < 128) × (first + n ≤ length (now image)) ⌝ }
-    ensures { λ r. ⌜ ((words upper : ℕ) → InProgram words upper (now (bytes .entry)) first n → Gives words upper (now (bytes .entry)) (now (image .entry)) (now (image .exit)) r) ⌝ }
+    ensures { λ r. ⌜ ((words upper : ℕ) → InProgram words upper (now (bytes .entry)) first n → Gives words upper (now (bytes .entry)) (now (image .entry)) (now (image .exit)) (r .number) (r .word)) ⌝ }
 {
     let mut j: usize = 0;
     while j < n {
         let word = word_at(bytes, j);
         if WORD_LIMIT <= word {
-            return 8;
+            return Given {
+                number: 8,
+                word: j as u8,
+            };
         }
         if image[first + j] != NOT_GIVEN {
-            return 9;
+            return Given {
+                number: 9,
+                word: j as u8,
+            };
         }
         image[first + j] = word;
         j += 1;
     }
-    0
+    Given {
+        number: 0,
+        word: j as u8,
+    }
 }

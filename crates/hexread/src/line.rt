@@ -37,7 +37,7 @@ pub(crate) fn judge_line(digits: &[u8; 256], line: &[u8], bytes: &mut [u8]) -> u
 }
 
 // The value of a character as a hex digit, from a table that stays where it is.
-fn digit(digits: &[u8; 256], c: u8) -> u8
+pub(crate) fn digit(digits: &[u8; 256], c: u8) -> u8
     requires { ⌜ now digits ≡ build 256 digitOf ⌝ }
     ensures { λ r. ⌜ r ≡ digitOf c ⌝ }
 {
@@ -45,7 +45,7 @@ fn digit(digits: &[u8; 256], c: u8) -> u8
 }
 
 // The first byte after the colon; 256 where two digits do not stand there.
-fn count_of(digits: &[u8; 256], line: &[u8]) -> u16
+pub(crate) fn count_of(digits: &[u8; 256], line: &[u8]) -> u16
     requires { ⌜ now digits ≡ build 256 digitOf ⌝ }
     ensures { λ r. ⌜ ByteRead (now (line .entry)) 0 r ⌝ }
 {

@@ -22,17 +22,23 @@ pub fn read_hex(d: Device, text: &[u8], image: &mut [u16]) -> ReadHex
         return ReadHex {
             number: 13,
             line: 0,
+            column: 0,
         };
     }
     if image.len() != (d.words as usize) + READING_TAIL {
         return ReadHex {
             number: 12,
             line: 0,
+            column: 0,
         };
     }
     clear(image);
     if MOST_TEXT < text.len() {
-        return ReadHex { number: 1, line: 0 };
+        return ReadHex {
+            number: 1,
+            line: 0,
+            column: 0,
+        };
     }
     let r = read_lines(d.words, text, image);
     if r.number != 0 {
@@ -44,7 +50,7 @@ pub fn read_hex(d: Device, text: &[u8], image: &mut [u16]) -> ReadHex
 // The lines of a text until one is refused, with one table and one record's bytes for all of them; 10 if no end record came.
 fn read_lines(words: u16, text: &[u8], image: &mut [u16]) -> ReadHex
     requires { ⌜ (length (now image) ≡ words + readingTail) × (length (now text) ≤ mostText) ⌝ }
-    ensures { λ r. ⌜ LinesRead words (now (text .entry)) (now (image .entry)) (r .number) (r .line) (now (image .exit)) ⌝ }
+    ensures { λ r. ⌜ LinesRead words (now (text .entry)) (now (image .entry)) r (now (image .exit)) ⌝ }
 {
     let digits = numerals::hex::digits();
     let mut bytes = [0u8; 260];
@@ -69,6 +75,7 @@ fn read_lines(words: u16, text: &[u8], image: &mut [u16]) -> ReadHex
             return ReadHex {
                 number: s.number,
                 line,
+                column: s.column,
             };
         }
         ended = s.ended;
@@ -76,11 +83,16 @@ fn read_lines(words: u16, text: &[u8], image: &mut [u16]) -> ReadHex
         at = next.at;
     }
     if ended {
-        return ReadHex { number: 0, line: 0 };
+        return ReadHex {
+            number: 0,
+            line: 0,
+            column: 0,
+        };
     }
     ReadHex {
         number: 10,
         line: 0,
+        column: 0,
     }
 }
 

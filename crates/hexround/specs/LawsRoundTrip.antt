@@ -29,7 +29,8 @@ use Rattle.device.specs.LawsMemory.{image-long, image-each, entry-word}
 use Rattle.hexwrite.specs.declared.WrittenHex.{WrittenHex}
 use Rattle.lines.specs.Lines.{linesOf, allWithoutCr, withoutCr}
 use Rattle.hexread.specs.Line.{byteAt, countOf, offsetOf, typeOf, lineNumber}
-use Rattle.hexread.specs.Reader.{mostText, wordOf, byteAddress, entryAt, entryOfWord, wordNumber, Reading, giveWords, recordStep, lineRefused, lineStep, blankImage, Outcome, readLines, begun, textRead}
+use Rattle.hexread.specs.Step.{wordOf, byteAddress, entryAt, entryOfWord, wordNumber, Reading, giveWords, recordStep, lineRefused, lineStep}
+use Rattle.hexread.specs.Reader.{mostText, blankImage, Outcome, readLines, begun, textRead}
 use Rattle.hexwrite.specs.Writer.{writtenHex, writtenOut, recordText, hexAddress, upperOf, wordBytes, dataBytes, upperBytes, endBytes, hexText}
 use Rattle.hexwrite.specs.LawsWrite.{upperText, refusedWith}
 use Rattle.hexwrite.specs.LawsWriteRun.{length-words, upper-same, upper-new, upper-most, hex-program, hex-config, hex-below}
@@ -152,7 +153,7 @@ read-upper words upper u image ls k h =
     step = unfold recordStep pick in rw (kind, value)
 
 -- the end record, after which there is only an empty line
-read-end : (words upper : ℕ) (image : List ℕ) (k : ℕ) → readLines words (linesOf (recordText endBytes)) k (reading upper image) ≡ record { number = 0; line = 0; image = image }
+read-end : (words upper : ℕ) (image : List ℕ) (k : ℕ) → readLines words (linesOf (recordText endBytes)) k (reading upper image) ≡ record { number = 0; line = 0; column = 0; image = image }
 unfolding endBytes
 read-end words upper image k =
     let lines : linesOf (recordText (0 ∷ 0 ∷ 0 ∷ 1 ∷ [])) ≡ line ∷ linesOf [] = rw append-nil at (lines-record (0 ∷ 0 ∷ 0 ∷ 1 ∷ []) []) in
@@ -175,7 +176,7 @@ read-end words upper image k =
     step : recordStep words line (reading upper image) ≡ over
     step = unfold recordStep pick in rw kind
 
-    last : readLines words (linesOf []) (k + 1) over ≡ record { number = 0; line = 0; image = image }
+    last : readLines words (linesOf []) (k + 1) over ≡ record { number = 0; line = 0; column = 0; image = image }
     last = unfold linesOf allWithoutCr withoutCr split readLines lineStep pick in refl
 
 -- ---- the words of a data record
@@ -340,9 +341,9 @@ module _ (words : ℕ) (image : List ℕ) (s e : ℕ) (eighths : words % 8 ≡ 0
 module _ (words : ℕ) (image : List ℕ) (eighths : words % 8 ≡ 0) (m : words ≤ mostWords) (ok : imageOk words image ≡ true) where
   -- a run's lines: the upper half where it changes, and the data
   read-run : (upper s e : ℕ) (rest : List ℕ) → Run words image s e → Dec (upperOf words s ≡ upper)
-      → ((k : ℕ) → readLines words (linesOf rest) k (reading (upperOf words s) (upTo (words + readingTail) image e)) ≡ record { number = 0; line = 0; image = image })
+      → ((k : ℕ) → readLines words (linesOf rest) k (reading (upperOf words s) (upTo (words + readingTail) image e)) ≡ record { number = 0; line = 0; column = 0; image = image })
       → (k : ℕ) → readLines words (linesOf (upperText upper (upperOf words s) ++ (recordText (dataBytes words image s e) ++ rest))) k
-      (reading upper (upTo (words + readingTail) image s)) ≡ record { number = 0; line = 0; image = image }
+      (reading upper (upTo (words + readingTail) image s)) ≡ record { number = 0; line = 0; column = 0; image = image }
   read-run upper s e rest r (yes same) next k =
       rw (upper-same upper (upperOf words s) same, lines-record (dataBytes words image s e) rest, ← same)
       (read-data words image s e eighths m ok r (upperOf words s) refl (linesOf rest) k ∙ next (k + 1))
@@ -354,7 +355,7 @@ module _ (words : ℕ) (image : List ℕ) (eighths : words % 8 ≡ 0) (m : words
       ∙ (read-data words image s e eighths m ok r (upperOf words s) refl (linesOf rest) (k + 1) ∙ next (k + 1 + 1)))
 
   read-records : {from upper : ℕ} {text : List ℕ} → Records words image from upper text → (k : ℕ)
-      → readLines words (linesOf (text ++ recordText endBytes)) k (reading upper (upTo (words + readingTail) image from)) ≡ record { number = 0; line = 0; image = image }
+      → readLines words (linesOf (text ++ recordText endBytes)) k (reading upper (upTo (words + readingTail) image from)) ≡ record { number = 0; line = 0; column = 0; image = image }
   read-records {from} {upper} (no-more silent) k =
       rw (up-to-all (words + readingTail) image (image-long words image ok) from silent) (read-end words upper image k)
   read-records {from} {upper} (run {rest = rest} s e low silent r more) k =
@@ -364,13 +365,13 @@ module _ (words : ℕ) (image : List ℕ) (eighths : words % 8 ≡ 0) (m : words
       rw (parts, up-to-silent (words + readingTail) image from s low silent)
       (read-run upper s e (rest ++ recordText endBytes) r (ℕ-discrete (upperOf words s) upper) (λ j. read-records more j) k)
 
-  read-text : (k : ℕ) → readLines words (linesOf (hexText words image)) k (begun words) ≡ record { number = 0; line = 0; image = image }
+  read-text : (k : ℕ) → readLines words (linesOf (hexText words image)) k (begun words) ≡ record { number = 0; line = 0; column = 0; image = image }
   unfolding hexText begun blankImage
   read-text k = rw (up-to-none (words + readingTail) image) (read-records (text-made words image) k)
 
 -- every image that a device may have is read back from its text, into any buffer of its length
 pub round-trip : (d : Device) (image buffer : List ℕ) → deviceOk d ≡ true → imageOk (d .words) image ≡ true → length buffer ≡ d .words + readingTail
-    → textRead d (hexText (d .words) image) buffer ≡ record { number = 0; line = 0; image = image }
+    → textRead d (hexText (d .words) image) buffer ≡ record { number = 0; line = 0; column = 0; image = image }
 unfolding textRead
 round-trip d image buffer sound ok long =
     let keeps : Rules d = rules d sound in
@@ -386,14 +387,14 @@ read-sound d text buffer e = ⊎-elim (λ t. t) (λ f. absurd (refused f)) (deci
   where
     refused : deviceOk d ≡ false → ⊥
     refused f =
-        let n : textRead d text buffer .number ≡ 13 = unfold textRead in ap (λ (o : Outcome). o .number) (pick-false (deviceOk d) _ (record { number = 13; line = 0; image = buffer }) f) in
+        let n : textRead d text buffer .number ≡ 13 = unfold textRead in ap (λ (o : Outcome). o .number) (pick-false (deviceOk d) _ (record { number = 13; line = 0; column = 0; image = buffer }) f) in
         omega arith
 
 -- the other way round: what was read is read again from the text that is written of it. `ok`: a text that is read without
 -- refusal leaves a sound image
 pub read-again : (d : Device) (text buffer other : List ℕ) → textRead d text buffer .number ≡ 0 → (ok : imageOk (d .words) (textRead d text buffer .image) ≡ true)
     → length other ≡ d .words + readingTail
-    → textRead d (hexText (d .words) (textRead d text buffer .image)) other ≡ record { number = 0; line = 0; image = textRead d text buffer .image }
+    → textRead d (hexText (d .words) (textRead d text buffer .image)) other ≡ record { number = 0; line = 0; column = 0; image = textRead d text buffer .image }
 read-again d text buffer other e ok long = round-trip d (textRead d text buffer .image) other (read-sound d text buffer e) ok long
 
 -- ---- of the calls' own answers
@@ -439,7 +440,7 @@ written-text d image out e = rw (long, stored) (take-at (hexText (d .words) imag
 
 -- and they are read back as the image that was written
 pub written-read : (d : Device) (image out buffer : List ℕ) → writtenHex d image out .number ≡ 0 → length buffer ≡ d .words + readingTail
-    → textRead d (take (writtenHex d image out .length) (writtenOut d image out)) buffer ≡ record { number = 0; line = 0; image = image }
+    → textRead d (take (writtenHex d image out .length) (writtenOut d image out)) buffer ≡ record { number = 0; line = 0; column = 0; image = image }
 written-read d image out buffer e long =
     let f : Fine d image out = written-fine d image out e in
     rw (written-text d image out e) (round-trip d image buffer (f .sound) (f .ok) long)

@@ -1,4 +1,4 @@
--- Laws of counting and of the first place: what the two definitions mean, and one turn of a loop that carries both along.
+-- Laws of counting: what the definition means, the first place that is counted, and one turn of a loop that carries both along.
 use Prim.Native.Nat.{ℕ, zero, suc, _+_, _≤_, _<_}
 use native.Mathlib.Nat.{not-suc-le-zero, le-of-suc-le-suc, eq-or-lt-of-le}
 use native.Mathlib.Numerals.{add-one}
@@ -7,11 +7,11 @@ use native.Mathlib.Decide.{decLt, ℕ-discrete}
 use mathlib.Core.Path.{_≡_, refl, sym, ap, _∙_}
 use mathlib.Core.Logic.{_⊎_, inl, inr, ⊎-elim}
 use mathlib.Core.Bool.{Bool, true, false}
-use lib.Dec.{ltb}
-use borrow.Author.Tests.{lt-ltb, le-ltb}
 use Rattle.words.specs.Choice.{pick}
+use Rattle.words.specs.First.{firstTo}
 use Rattle.words.specs.LawsChoice.{pick-true, pick-false, decided, true-not-false}
-use Rattle.judge.specs.Count.{countTo, firstTo}
+use Rattle.words.specs.LawsFirst.{first, first-stays, first-here}
+use Rattle.judge.specs.Count.{countTo}
 
 -- ---- one place more
 
@@ -25,22 +25,6 @@ module _ (n : ℕ) (f : ℕ → Bool) where
   count-no e =
       let none : _≡_ {A = ℕ} (pick (f n) 1 0) 0 = pick-false (f n) 1 0 e in
       omega arith
-
-  pub first-stays : firstTo n f < n → firstTo (suc n) f ≡ firstTo n f
-  unfolding firstTo
-  first-stays h = pick-true (ltb (firstTo n f) n) (firstTo n f) (pick (f n) n (suc n)) (lt-ltb (firstTo n f) n h)
-
-  pub first-here : n ≤ firstTo n f → f n ≡ true → firstTo (suc n) f ≡ n
-  unfolding firstTo
-  first-here h e =
-      pick-false (ltb (firstTo n f) n) (firstTo n f) (pick (f n) n (suc n)) (le-ltb (firstTo n f) n h)
-      ∙ pick-true (f n) n (suc n) e
-
-  pub first-not-yet : n ≤ firstTo n f → f n ≡ false → firstTo (suc n) f ≡ suc n
-  unfolding firstTo
-  first-not-yet h e =
-      pick-false (ltb (firstTo n f) n) (firstTo n f) (pick (f n) n (suc n)) (le-ltb (firstTo n f) n h)
-      ∙ pick-false (f n) n (suc n) e
 
 -- ---- the count
 
@@ -69,29 +53,7 @@ count-le (suc n) f =
     let h : countTo n f ≤ n = count-le n f in
     ⊎-elim (λ t. rw (count-yes n f t) (omega arith)) (λ t. rw (count-no n f t) (omega arith)) (decided (f n))
 
--- ---- the first place
-
-pub record First (n : ℕ) (f : ℕ → Bool) (k : ℕ) : Type 0 where
-  pub within : k ≤ n
-  pub before : (i : ℕ) → i < k → f i ≡ false
-  pub here : k < n → f k ≡ true
-
--- nothing before the first place, and the test holds there; n if it holds nowhere
-pub first : (n : ℕ) (f : ℕ → Bool) → First n f (firstTo n f)
-first zero f = unfold firstTo in record { within = omega arith; before = λ i h. absurd (not-suc-le-zero h); here = λ h. absurd (not-suc-le-zero h) }
-first (suc n) f = by (first n f) (decLt (firstTo n f) n) (decided (f n))
-  where
-    below : First n f (firstTo n f) → (firstTo n f < n → ⊥) → f n ≡ false → (i : ℕ) → i < suc n → f i ≡ false
-    below r h t i p = ⊎-elim (λ e. rw e t) (λ l. r .before i (omega arith)) (eq-or-lt-of-le (le-of-suc-le-suc p))
-
-    by : First n f (firstTo n f) → Dec (firstTo n f < n) → (f n ≡ true) ⊎ (f n ≡ false) → First (suc n) f (firstTo (suc n) f)
-    by r (yes h) t = rw (first-stays n f h) (record { within = omega arith; before = r .before; here = λ p. r .here h })
-    by r (no h) (inl t) =
-        rw (first-here n f (omega arith) t)
-        (record { within = omega arith; before = λ i p. r .before i (omega arith); here = λ p. t })
-    by r (no h) (inr t) =
-        rw (first-not-yet n f (omega arith) t)
-        (record { within = omega arith; before = below r h t; here = λ p. absurd (omega arith) })
+-- ---- the first place that is counted
 
 -- where something is counted there is a first place
 pub first-counted : (n : ℕ) (f : ℕ → Bool) → 0 < countTo n f → firstTo n f < n
@@ -118,11 +80,6 @@ module _ (f g : ℕ → Bool) where
   unfolding countTo
   count-same zero h = refl
   count-same (suc n) h = rw (h n (omega arith), count-same n (λ i p. h i (omega arith)))
-
-  pub first-same : (n : ℕ) → ((i : ℕ) → i < n → f i ≡ g i) → firstTo n f ≡ firstTo n g
-  unfolding firstTo
-  first-same zero h = refl
-  first-same (suc n) h = rw (h n (omega arith), first-same n (λ i p. h i (omega arith)))
 
 -- ---- a loop that carries both along
 

@@ -14,15 +14,17 @@ use Rattle.words.specs.LawsChoice.{decided, true-not-false, first-holds}
 use Rattle.words.specs.Word.{bit, underMask}
 use Rattle.words.specs.LawsMask.{under-equal, equal-under, equal-bit}
 use Rattle.words.specs.Address.{configBase, addressOf}
+use Rattle.words.specs.First.{firstTo}
+use Rattle.words.specs.LawsFirst.{first, first-same}
 use Rattle.device.specs.declared.Device.{Device}
 use Rattle.device.specs.Record.{deviceOk}
 use Rattle.device.specs.Memory.{readingTail, ids, cpWord, cpBit, programmable, maskAt, readingOk, zeroBit, protected}
 use Rattle.device.specs.LawsRecord.{rules}
 use Rattle.device.specs.LawsMask.{mask-one, mask-two, under-plain}
 use Rattle.device.specs.LawsMemory.{reading-each, protected-same}
-use Rattle.judge.specs.Count.{countTo, firstTo}
+use Rattle.judge.specs.Count.{countTo}
 use Rattle.judge.specs.Verify.{judged, entryDiffers, bare, verdictOf, verified}
-use Rattle.judge.specs.LawsCount.{count-none, count-zero, count-same, first-same, first, first-counted}
+use Rattle.judge.specs.LawsCount.{count-none, count-zero, count-same, first-counted}
 use Rattle.judge.specs.LawsVerify.{judged-program, judged-id, judged-between, judged-config, differs-there, differs-under, differs-equal, differs-same, differs-not-judged, verdict-0, verdict-41, verdict-40, verified-13, verified-21-wanted, verified-21-reading, verified-judged, address-ascends}
 
 -- ---- the number

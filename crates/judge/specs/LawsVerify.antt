@@ -20,13 +20,14 @@ use Rattle.words.specs.LawsAddress.{place-of, address-program, address-config}
 use Rattle.words.specs.declared.WordAddress.{WordAddress}
 use Rattle.words.specs.declared.Place.{Place}
 use Rattle.words.specs.declared.Place.the-variants.{At, Nowhere}
+use Rattle.words.specs.First.{firstTo}
 use Rattle.device.specs.declared.Device.{Device}
 use Rattle.device.specs.Record.{mostWords, deviceOk}
 use Rattle.device.specs.Memory.{readingTail, ids, cpWord, programmable, maskAt, readingOk, protected}
 use Rattle.device.specs.LawsMask.{under-plain}
 use Rattle.device.specs.LawsMemory.{programmable-low, programmable-never, programmable-config}
 use Rattle.judge.specs.declared.Verdict.{Verdict}
-use Rattle.judge.specs.Count.{countTo, firstTo}
+use Rattle.judge.specs.Count.{countTo}
 use Rattle.judge.specs.LawsCount.{Found}
 use Rattle.judge.specs.Verify.{judged, wordDiffers, entryDiffers, bare, verdictOf, verified}
 

@@ -7,11 +7,12 @@ use lib.ListN.{getD}
 use Rattle.words.specs.Choice.{pick, unless}
 use Rattle.words.specs.Word.{underMask}
 use Rattle.words.specs.Address.{configBase, addressOf}
+use Rattle.words.specs.First.{firstTo}
 use Rattle.device.specs.declared.Device.{Device}
 use Rattle.device.specs.Record.{deviceOk}
 use Rattle.device.specs.Memory.{readingTail, programmable, maskAt, readingOk, protected}
 use Rattle.judge.specs.declared.Verdict.{Verdict}
-use Rattle.judge.specs.Count.{countTo, firstTo}
+use Rattle.judge.specs.Count.{countTo}
 
 -- user IDs, both configuration words and, unless the reading is protected, all program words are judged
 unfoldable pub judged : (words : ℕ) → (hidden : Bool) → ℕ → Bool

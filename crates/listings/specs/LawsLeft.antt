@@ -127,7 +127,7 @@ module _ (fresh : Bool) (d : Device) (image reading : List ℕ) (ok : readingOk 
     unfolding leftText
     left-found number y = ap (sheetText d) (front ∙ e) ∙ sym (pick-true (eqb number 0) _ _ (eq-eqb number 0 y))
 
-pub left-refused : (number : ℕ) (d : Device) (reading : List ℕ) → (number ≡ 0 → ⊥) → refusedText number 0 ≡ leftText number d reading
+pub left-refused : (number : ℕ) (d : Device) (reading : List ℕ) → (number ≡ 0 → ⊥) → refusedText number 0 0 ≡ leftText number d reading
 unfolding leftText
 left-refused number d reading n = sym (pick-false (eqb number 0) _ _ (ne-eqb number 0 n))
 

@@ -28,7 +28,7 @@ use Rattle.listings.specs.LawsStreams.{mostStream}
 
 -- ---- a planner's answer printed
 
-pub plan-text-refused : (number : ℕ) (stream : List ℕ) → (number ≡ 0 → ⊥) → refusedText number 0 ≡ planText number stream
+pub plan-text-refused : (number : ℕ) (stream : List ℕ) → (number ≡ 0 → ⊥) → refusedText number 0 0 ≡ planText number stream
 unfolding planText pick
 plan-text-refused number stream n = rw (ne-eqb number 0 n)
 
@@ -115,7 +115,7 @@ read-back-few d sound =
     omega arith
 
 module _ (table sheet : List ℕ) where
-  pub readback-refused : (number : ℕ) → number ≡ openNumber table sheet → (number ≡ 0 → ⊥) → refusedText number 0 ≡ readbackText table sheet
+  pub readback-refused : (number : ℕ) → number ≡ openNumber table sheet → (number ≡ 0 → ⊥) → refusedText number 0 0 ≡ readbackText table sheet
   unfolding readbackText pick
   readback-refused number e n = rw (← e, ne-eqb number 0 n)
 

@@ -53,7 +53,7 @@ endText fresh left d image reading =
 
 -- the text for what the HEX file came to
 unfoldable givenText : (fresh left : Bool) → Device → (reading : List ℕ) → Outcome → List ℕ
-givenText fresh left d reading given = pick (eqb (given .number) 0) (endText fresh left d (given .image) reading) (refusedText (given .number) (given .line))
+givenText fresh left d reading given = pick (eqb (given .number) 0) (endText fresh left d (given .image) reading) (refusedText (given .number) (given .line) (given .column))
 
 unfoldable pub programText : (fresh left : Bool) → (table sheet hex : List ℕ) → List ℕ
 programText fresh left table sheet hex =
@@ -103,7 +103,7 @@ module _ (fresh : Bool) (d : Device) (image reading : List ℕ) where
 -- ---- what the HEX file came to
 
 module _ (fresh left : Bool) (d : Device) (reading : List ℕ) (given : Outcome) where
-  given-refused : (given .number ≡ 0 → ⊥) → refusedText (given .number) (given .line) ≡ givenText fresh left d reading given
+  given-refused : (given .number ≡ 0 → ⊥) → refusedText (given .number) (given .line) (given .column) ≡ givenText fresh left d reading given
   unfolding givenText
   given-refused n = sym (pick-false (eqb (given .number) 0) _ _ (ne-eqb (given .number) 0 n))
 
@@ -125,30 +125,30 @@ module _ (fresh left : Bool) (table sheet hex : List ℕ) where
   whole : List ℕ
   whole = givenText fresh left (recordOf table sheet) (boardReading table sheet) (hexOf table sheet hex)
 
-  program-board : programText fresh left table sheet hex ≡ pick (eqb (boardNumber table sheet) 0) whole (refusedText (boardNumber table sheet) 0)
+  program-board : programText fresh left table sheet hex ≡ pick (eqb (boardNumber table sheet) 0) whole (refusedText (boardNumber table sheet) 0 0)
   unfolding whole
   program-board = by fresh left
     where
       by : (f l : Bool) → programText f l table sheet hex
-          ≡ pick (eqb (boardNumber table sheet) 0) (givenText f l (recordOf table sheet) (boardReading table sheet) (hexOf table sheet hex)) (refusedText (boardNumber table sheet) 0)
+          ≡ pick (eqb (boardNumber table sheet) 0) (givenText f l (recordOf table sheet) (boardReading table sheet) (hexOf table sheet hex)) (refusedText (boardNumber table sheet) 0 0)
       by true true = unfold programText wantedFreshText givenText endText planNumber knownTo pick in refl
       by false true = unfold programText wantedText givenText endText planNumber knownTo pick in refl
       by true false = unfold programText freshText givenText endText planNumber planSteps pick in refl
       by false false = unfold programText updateText givenText endText planNumber planSteps pick in refl
 
   module _ (number : ℕ) (e : number ≡ boardNumber table sheet) where
-    pub program-refused : (number ≡ 0 → ⊥) → refusedText number 0 ≡ programText fresh left table sheet hex
-    program-refused n = board-told table sheet number e (λ k. refusedText k 0) whole n ∙ sym program-board
+    pub program-refused : (number ≡ 0 → ⊥) → refusedText number 0 0 ≡ programText fresh left table sheet hex
+    program-refused n = board-told table sheet number e (λ k. refusedText k 0 0) whole n ∙ sym program-board
 
     module _ (z : number ≡ 0) where
       program-whole : whole ≡ programText fresh left table sheet hex
-      program-whole = board-text table sheet number e whole (refusedText (boardNumber table sheet) 0) z ∙ sym program-board
+      program-whole = board-text table sheet number e whole (refusedText (boardNumber table sheet) 0 0) z ∙ sym program-board
 
-      pub program-long : 65536 < length hex → refusedText 1 0 ≡ programText fresh left table sheet hex
+      pub program-long : 65536 < length hex → refusedText 1 0 0 ≡ programText fresh left table sheet hex
       unfolding whole
       program-long h =
-          let long : hexOf table sheet hex ≡ refusedAt (recordOf table sheet .words) 1 0 = unfold hexOf in pick-false (leb (length hex) 65536) _ _ (lt-leb (length hex) 65536 h) in
-          let told : refusedText 1 0 ≡ givenText fresh left (recordOf table sheet) (boardReading table sheet) (refusedAt (recordOf table sheet .words) 1 0) =
+          let long : hexOf table sheet hex ≡ refusedAt (recordOf table sheet .words) 1 0 0 = unfold hexOf in pick-false (leb (length hex) 65536) _ _ (lt-leb (length hex) 65536 h) in
+          let told : refusedText 1 0 0 ≡ givenText fresh left (recordOf table sheet) (boardReading table sheet) (refusedAt (recordOf table sheet .words) 1 0 0) =
           unfold givenText refusedAt pick in refl in
           told ∙ (ap (givenText fresh left (recordOf table sheet) (boardReading table sheet)) (sym long) ∙ program-whole)
 
@@ -168,6 +168,10 @@ module _ (fresh left : Bool) (table sheet hex : List ℕ) where
         unfolding readAnswer
         line-is = ap (λ x. x .line) (p .answer)
 
+        column-is : r .column ≡ textRead d hex image .column
+        unfolding readAnswer
+        column-is = ap (λ x. x .column) (p .answer)
+
         read-whole : givenText fresh left d (take (d .words + readingTail) reading) (textRead d hex image) ≡ programText fresh left table sheet hex
         unfolding whole
         read-whole =
@@ -175,8 +179,8 @@ module _ (fresh left : Bool) (table sheet hex : List ℕ) where
             ∙ (ap (λ l. givenText fresh left d l (hexOf table sheet hex)) (b .front)
             ∙ (ap (λ x. givenText fresh left x (boardReading table sheet) (hexOf table sheet hex)) (b .record-is) ∙ program-whole))
 
-        pub program-hex : (r .number ≡ 0 → ⊥) → refusedText (r .number) (r .line) ≡ programText fresh left table sheet hex
-        program-hex n = rw (number-is, line-is) (given-refused fresh left d (take (d .words + readingTail) reading) (textRead d hex image) (λ z. n (number-is ∙ z)) ∙ read-whole)
+        pub program-hex : (r .number ≡ 0 → ⊥) → refusedText (r .number) (r .line) (r .column) ≡ programText fresh left table sheet hex
+        program-hex n = rw (number-is, line-is, column-is) (given-refused fresh left d (take (d .words + readingTail) reading) (textRead d hex image) (λ z. n (number-is ∙ z)) ∙ read-whole)
 
         module _ (y : r .number ≡ 0) (rest : List ℕ) where
           count : length image′ ≡ d .words + readingTail

@@ -15,20 +15,20 @@ use Rattle.listings.specs.Streams.{hexOf}
 
 -- a planner's refusal, or the sheet of this reading
 unfoldable pub leftText : (number : ℕ) → Device → (reading : List ℕ) → List ℕ
-leftText number d reading = unless (eqb number 0) (refusedText number 0) (sheetText d reading)
+leftText number d reading = unless (eqb number 0) (refusedText number 0 0) (sheetText d reading)
 
 -- the reading with each program word, user ID and configuration word at its wanted value
 unfoldable pub wantedText : (table sheet hex : List ℕ) → List ℕ
 wantedText table sheet hex =
-    unless (eqb (boardNumber table sheet) 0) (refusedText (boardNumber table sheet) 0)
-    (unless (eqb (hexOf table sheet hex .number) 0) (refusedText (hexOf table sheet hex .number) (hexOf table sheet hex .line))
+    unless (eqb (boardNumber table sheet) 0) (refusedText (boardNumber table sheet) 0 0)
+    (unless (eqb (hexOf table sheet hex .number) 0) (refusedText (hexOf table sheet hex .number) (hexOf table sheet hex .line) (hexOf table sheet hex .column))
     (leftText (updateNumber (recordOf table sheet) (hexOf table sheet hex .image) (boardReading table sheet)) (recordOf table sheet)
     (programmed (recordOf table sheet) (hexOf table sheet hex .image) (boardReading table sheet) (boardReading table sheet))))
 
 -- the same where a fresh programming knows nothing of the board
 unfoldable pub wantedFreshText : (table sheet hex : List ℕ) → List ℕ
 wantedFreshText table sheet hex =
-    unless (eqb (boardNumber table sheet) 0) (refusedText (boardNumber table sheet) 0)
-    (unless (eqb (hexOf table sheet hex .number) 0) (refusedText (hexOf table sheet hex .number) (hexOf table sheet hex .line))
+    unless (eqb (boardNumber table sheet) 0) (refusedText (boardNumber table sheet) 0 0)
+    (unless (eqb (hexOf table sheet hex .number) 0) (refusedText (hexOf table sheet hex .number) (hexOf table sheet hex .line) (hexOf table sheet hex .column))
     (leftText (freshNumber (recordOf table sheet) (hexOf table sheet hex .image) (getD (boardReading table sheet) (recordOf table sheet .words + deviceId) 0)) (recordOf table sheet)
     (programmed (recordOf table sheet) (hexOf table sheet hex .image) [] (boardReading table sheet))))

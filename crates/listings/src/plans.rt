@@ -62,17 +62,17 @@ fn put_program(
     let mut reading = [0u16; board::MOST_READING];
     let opened = board::open_board(table, sheet, &mut reading);
     if opened.number != 0 {
-        return print::refusal(out, opened.number, 0);
+        return print::refusal(out, opened.number, 0, 0);
     }
     if MOST_HEX < hex.len() {
-        return print::refusal(out, 1, 0);
+        return print::refusal(out, 1, 0, 0);
     }
     let device = opened.device;
     let count = (device.words as usize) + READING_TAIL;
     let mut image = [NOT_GIVEN; board::MOST_READING];
     let given = hexread::read_hex(device, hex, &mut image[..count]);
     if given.number != 0 {
-        return print::refusal(out, given.number, given.line);
+        return print::refusal(out, given.number, given.line, given.column);
     }
     put_planned(device, &image[..count], &reading[..count], fresh, left, out)
 }

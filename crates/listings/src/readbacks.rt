@@ -10,7 +10,7 @@ pub fn readback(table: &[u8], sheet: &[u8], out: &mut [u8]) -> usize
 {
     let opened = board::open_record(table, sheet);
     if opened.number != 0 {
-        return print::refusal(out, opened.number, 0);
+        return print::refusal(out, opened.number, 0, 0);
     }
     let device = opened.device;
     let mut stream = [0u8; streams::MOST_STREAM];

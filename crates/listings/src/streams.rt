@@ -20,7 +20,7 @@ pub(crate) fn put_plan(out: &mut [u8], planned: Planned, stream: &[u8]) -> usize
     ensures { λ r. ⌜ Prints (planText (planned .number) (take (3 * planned .steps) (now (stream .entry)))) (now (out .entry)) r (now (out .exit)) ⌝ }
 {
     if planned.number != 0 {
-        return print::refusal(out, planned.number, 0);
+        return print::refusal(out, planned.number, 0, 0);
     }
     let end = 3 * planned.steps;
     put_stream(out, &stream[..end])

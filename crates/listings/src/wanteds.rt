@@ -30,7 +30,7 @@ pub(crate) fn put_left(
     ensures { λ r. ⌜ Prints (leftText number d (programmed d (now (image .entry)) (knownTo fresh (now (reading .entry))) (now (reading .entry)))) (now (out .entry)) r (now (out .exit)) ⌝ }
 {
     if number != 0 {
-        return print::refusal(out, number, 0);
+        return print::refusal(out, number, 0, 0);
     }
     let count = (d.words as usize) + READING_TAIL;
     let mut words = [0u16; board::MOST_READING];

@@ -16,39 +16,56 @@ use Rattle.print.specs.LawsPrint.{Wrote, part, prints, wrote-as, wrote-t
 
 -- ---- a refusal
 
--- its first word and the tab after it
-abbrev pub refusedWord : List ℕ
-refusedWord = 0x72 ∷ 0x65 ∷ 0x66 ∷ 0x75 ∷ 0x73 ∷ 0x65 ∷ 0x64 ∷ tab ∷ []
+-- its first field and the tab after it
+abbrev pub refusedHead : List ℕ
+refusedHead = 0x72 ∷ 0x65 ∷ 0x66 ∷ 0x75 ∷ 0x73 ∷ 0x65 ∷ 0x64 ∷ tab ∷ []
 
-refused-parts : (number line : ℕ) → refusedWord ++ ((decimalText number ++ tab ∷ []) ++ (decimalText line ++ lf ∷ [])) ≡ refusedText number line
-unfolding refusedText
-refused-parts number line = ap (λ x. refusedWord ++ x) (append-assoc (decimalText number) (tab ∷ []) (decimalText line ++ lf ∷ []))
-
-pub refused-end : (out : List ℕ) (r : ℕ) (out′ : List ℕ) → Prints refusedWord out r out′ → r ≡ 8
+pub refused-end : (out : List ℕ) (r : ℕ) (out′ : List ℕ) → Prints refusedHead out r out′ → r ≡ 8
 refused-end out r out′ p = p .count
 
-pub refused-printed : (number line : ℕ) (out a b c : List ℕ) (r s t : ℕ) → Prints refusedWord out r a → Wrote r (decimalText number ++ tab ∷ []) a s b
-    → Wrote s (decimalText line ++ lf ∷ []) b t c → Prints (refusedText number line) out t c
-refused-printed number line out a b c r s t p q u =
-    prints (refusedText number line) out t c
-    (wrote-as 0 out (refusedWord ++ ((decimalText number ++ tab ∷ []) ++ (decimalText line ++ lf ∷ []))) (refusedText number line) t c (refused-parts number line)
-    (wrote-then 0 out refusedWord ((decimalText number ++ tab ∷ []) ++ (decimalText line ++ lf ∷ [])) r t a c (part refusedWord out r a p)
-    (wrote-then r a (decimalText number ++ tab ∷ []) (decimalText line ++ lf ∷ []) s t b c q u)))
+module _ (number line column : ℕ) where
+  -- the fields after the number, and all after the first
+  abbrev lineOn : List ℕ
+  lineOn = (decimalText line ++ tab ∷ []) ++ (decimalText column ++ lf ∷ [])
 
-pub refused-short : (number line : ℕ) → length (refusedText number line) ≤ 30
-unfolding refusedText
-refused-short number line =
-    let a : length (decimalText number) ≤ 10 = length-decimal number in
-    let b : length (decimalText line) ≤ 10 = length-decimal line in
-    rw (length-append (decimalText number) (tab ∷ (decimalText line ++ lf ∷ [])), length-append (decimalText line) (lf ∷ [])) (omega arith)
+  abbrev numberOn : List ℕ
+  numberOn = (decimalText number ++ tab ∷ []) ++ lineOn
+
+  refused-parts : refusedHead ++ numberOn ≡ refusedText number line column
+  unfolding refusedText
+  refused-parts =
+      ap (λ x. refusedHead ++ x) (append-assoc (decimalText number) (tab ∷ []) lineOn)
+      ∙ ap (λ x. refusedHead ++ (decimalText number ++ tab ∷ x)) (append-assoc (decimalText line) (tab ∷ []) (decimalText column ++ lf ∷ []))
+
+  pub refused-printed : (out a b c e : List ℕ) (r s t u : ℕ) → Prints refusedHead out r a → Wrote r (decimalText number ++ tab ∷ []) a s b
+      → Wrote s (decimalText line ++ tab ∷ []) b t c → Wrote t (decimalText column ++ lf ∷ []) c u e → Prints (refusedText number line column) out u e
+  refused-printed out a b c e r s t u p q v w =
+      prints (refusedText number line column) out u e
+      (wrote-as 0 out (refusedHead ++ numberOn) (refusedText number line column) u e refused-parts
+      (wrote-then 0 out refusedHead numberOn r u a e (part refusedHead out r a p)
+      (wrote-then r a (decimalText number ++ tab ∷ []) lineOn s u b e q
+      (wrote-then s b (decimalText line ++ tab ∷ []) (decimalText column ++ lf ∷ []) t u c e v w))))
+
+  pub refused-short : length (refusedText number line column) ≤ 41
+  unfolding refusedText
+  refused-short =
+      let a : length (decimalText number) ≤ 10 = length-decimal number in
+      let b : length (decimalText line) ≤ 10 = length-decimal line in
+      let c : length (decimalText column) ≤ 10 = length-decimal column in
+      rw (
+        length-append (decimalText number) (tab ∷ (decimalText line ++ tab ∷ (decimalText column ++ lf ∷ []))),
+        length-append (decimalText line) (tab ∷ (decimalText column ++ lf ∷ [])),
+        length-append (decimalText column) (lf ∷ []),
+      ) (omega arith)
 
 -- a text, or a refusal
-pub either-short : (most : ℕ) → 30 ≤ most → (number line : ℕ) (text : List ℕ) → (number ≡ 0 → length text ≤ most) → length (pick (eqb number 0) text (refusedText number line)) ≤ most
-either-short most room number line text short = by (eqb number 0) refl
+pub either-short : (most : ℕ) → 41 ≤ most → (number line column : ℕ) (text : List ℕ) → (number ≡ 0 → length text ≤ most)
+    → length (pick (eqb number 0) text (refusedText number line column)) ≤ most
+either-short most room number line column text short = by (eqb number 0) refl
   where
-    by : (b : Bool) → eqb number 0 ≡ b → length (pick b text (refusedText number line)) ≤ most
+    by : (b : Bool) → eqb number 0 ≡ b → length (pick b text (refusedText number line column)) ≤ most
     by true e = unfold pick in short (eqb-true number 0 e)
-    by false e = unfold pick in let a : length (refusedText number line) ≤ 30 = refused-short number line in omega arith
+    by false e = unfold pick in let a : length (refusedText number line column) ≤ 41 = refused-short number line column in omega arith
 
 -- ---- a checksum
 

@@ -18,10 +18,10 @@ digits (suc n) number = pick (ltb number 10) ((0x30 + number) ∷ []) (digits n 
 unfoldable pub decimalText : ℕ → List ℕ
 decimalText number = digits 10 number
 
--- 'refused', the number, the line number, tabs between
-unfoldable pub refusedText : (number line : ℕ) → List ℕ
-refusedText number line =
-    0x72 ∷ 0x65 ∷ 0x66 ∷ 0x75 ∷ 0x73 ∷ 0x65 ∷ 0x64 ∷ tab ∷ (decimalText number ++ tab ∷ (decimalText line ++ lf ∷ []))
+-- 'refused', the number, the line, the column, tabs between
+unfoldable pub refusedText : (number line column : ℕ) → List ℕ
+refusedText number line column =
+    0x72 ∷ 0x65 ∷ 0x66 ∷ 0x75 ∷ 0x73 ∷ 0x65 ∷ 0x64 ∷ tab ∷ (decimalText number ++ tab ∷ (decimalText line ++ tab ∷ (decimalText column ++ lf ∷ [])))
 
 -- a checksum: four hex digits
 unfoldable pub sumText : (word : ℕ) → List ℕ

@@ -10,12 +10,13 @@ pub(crate) const TAB: u8 = 9;
 pub(crate) const LF: u8 = 10;
 
 // The line of a refusal, which is all that a program prints then.
-pub fn refusal(out: &mut [u8], number: u8, line: u32) -> usize
-    ensures { λ r. ⌜ Prints (refusedText number line) (now (out .entry)) r (now (out .exit)) ⌝ }
+pub fn refusal(out: &mut [u8], number: u8, line: u32, column: u32) -> usize
+    ensures { λ r. ⌜ Prints (refusedText number line column) (now (out .entry)) r (now (out .exit)) ⌝ }
 {
     let first = text(out, b"refused\t");
     let second = parts::put_number(out, first, number as u32, TAB);
-    parts::put_number(out, second, line, LF)
+    let third = parts::put_number(out, second, line, TAB);
+    parts::put_number(out, third, column, LF)
 }
 
 // The line of a checksum.

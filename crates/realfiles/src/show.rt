@@ -1,4 +1,4 @@
-// A HEX file read for a PIC16F1459: its name, the answer's number and line, and a line for each word that it gives.
+// A HEX file read for a PIC16F1459: its name, the answer's number, line and column, and a line for each word that it gives.
 use device::Device;
 use device::READING_TAIL;
 use libc::STDOUT_FILENO;
@@ -26,6 +26,8 @@ pub(crate) fn file(name: &[u8]) {
     io::print_decimal(STDOUT_FILENO, r.number as u64);
     io::write_all(STDOUT_FILENO, b"\t");
     io::print_decimal(STDOUT_FILENO, r.line as u64);
+    io::write_all(STDOUT_FILENO, b"\t");
+    io::print_decimal(STDOUT_FILENO, r.column as u64);
     io::write_all(STDOUT_FILENO, b"\n");
     all(&image);
 }

@@ -20,5 +20,5 @@ module _ (table sheet : List ℕ) (z : openNumber table sheet ≡ 0) (l : List �
   pub answers-gathered : gatherText table sheet (answerText l) ≡ sheetText (recordOf table sheet) l
   unfolding gatherText
   answers-gathered =
-      text-is (gatherNumber table sheet (answerText l)) 0 _ gathers-all
+      text-is (gatherNumber table sheet (answerText l)) 0 0 _ gathers-all
       ∙ ap (sheetText (recordOf table sheet)) (answers-read (recordOf table sheet .words) l ok .1)

@@ -81,7 +81,7 @@ front-answers r cells words l n done e room = front-is words l n e room
 module _ (table sheet : List ℕ) (z : openNumber table sheet ≡ 0) where
   printed : readbackText table sheet ≡ streamText (bytesOf (readBackSteps (recordOf table sheet)))
   unfolding readbackText
-  printed = text-is (openNumber table sheet) 0 (streamText (bytesOf (readBackSteps (recordOf table sheet)))) z
+  printed = text-is (openNumber table sheet) 0 0 (streamText (bytesOf (readBackSteps (recordOf table sheet)))) z
 
   read-again : streamOf (readbackText table sheet) ≡ bytesOf (readBackSteps (recordOf table sheet))
   read-again = ap streamOf printed ∙ printed-read (readBackSteps (recordOf table sheet)) (read-back-fits (recordOf table sheet))
@@ -121,7 +121,7 @@ gathered table sheet printed cells sound bare n enough buffer room =
     ∙ answers-gathered table sheet z (take (recordOf table sheet .words + readingTail) cells) (front-reading (recordOf table sheet) cells sound)
   where
     z : openNumber table sheet ≡ 0
-    z = not-refused (openNumber table sheet) 0 (streamText (bytesOf (readBackSteps (recordOf table sheet)))) (unfold readbackText in printed)
+    z = not-refused (openNumber table sheet) 0 0 (streamText (bytesOf (readBackSteps (recordOf table sheet)))) (unfold readbackText in printed)
 
 -- a stream was played whole, be it cut before or not: if the board is not protected then, its words are gathered to just the sheet that the stream is to leave
 pub left-gathered : (table sheet : List ℕ) → isRefusal (readbackText table sheet) ≡ false → (stream cells left : List ℕ) → Leaves (recordOf table sheet) stream cells left

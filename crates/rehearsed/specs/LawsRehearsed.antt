@@ -114,7 +114,7 @@ module _ (table sheet hex : List ℕ) where
 
   -- a text that is printed where none refuses
   abbrev told : (plan : ℕ) → (text : List ℕ) → List ℕ
-  told plan text = judged (boardNumber table sheet) (hexOf table sheet hex .number) (hexOf table sheet hex .line) plan text
+  told plan text = judged (boardNumber table sheet) (hexOf table sheet hex .number) (hexOf table sheet hex .line) (hexOf table sheet hex .column) plan text
 
   abbrev Good : (plan : ℕ) → Type 0
   Good plan = Unrefused (boardNumber table sheet) (hexOf table sheet hex .number) plan
@@ -136,10 +136,10 @@ module _ (table sheet hex : List ℕ) where
   wanted-fresh-is = refl
 
   update-good : isRefusal (updateText table sheet hex) ≡ false → Good updates
-  update-good e = unrefused _ _ _ _ _ (ap isRefusal (sym update-is) ∙ e)
+  update-good e = unrefused _ _ _ _ _ _ (ap isRefusal (sym update-is) ∙ e)
 
   fresh-good : isRefusal (freshText table sheet hex) ≡ false → Good freshes
-  fresh-good e = unrefused _ _ _ _ _ (ap isRefusal (sym fresh-is) ∙ e)
+  fresh-good e = unrefused _ _ _ _ _ _ (ap isRefusal (sym fresh-is) ∙ e)
 
   -- a board whose update is a stream is not refused
   pub update-board : isRefusal (updateText table sheet hex) ≡ false → boardNumber table sheet ≡ 0
@@ -149,10 +149,10 @@ module _ (table sheet hex : List ℕ) where
 
   module _ (u : Good updates) where
     update-stream : updateText table sheet hex ≡ streamText (bytesOf (updateSteps d image reading))
-    update-stream = update-is ∙ judged-text _ _ _ _ _ u
+    update-stream = update-is ∙ judged-text _ _ _ _ _ _ u
 
     wanted-sheet : wantedText table sheet hex ≡ sheetText d (programmed d image reading reading)
-    wanted-sheet = wanted-is ∙ judged-text _ _ _ _ _ u
+    wanted-sheet = wanted-is ∙ judged-text _ _ _ _ _ _ u
 
     update-left : (cells : List ℕ) → soundCells (chipOf d) cells ≡ true → take (d .words + readingTail) cells ≡ reading
         → Leaves d (streamText (bytesOf (updateSteps d image reading))) cells (wantedText table sheet hex)
@@ -165,10 +165,10 @@ module _ (table sheet hex : List ℕ) where
 
   module _ (u : Good freshes) where
     fresh-stream : freshText table sheet hex ≡ streamText (bytesOf (freshSteps d image))
-    fresh-stream = fresh-is ∙ judged-text _ _ _ _ _ u
+    fresh-stream = fresh-is ∙ judged-text _ _ _ _ _ _ u
 
     wanted-fresh-sheet : wantedFreshText table sheet hex ≡ sheetText d (programmed d image [] reading)
-    wanted-fresh-sheet = wanted-fresh-is ∙ judged-text _ _ _ _ _ u
+    wanted-fresh-sheet = wanted-fresh-is ∙ judged-text _ _ _ _ _ _ u
 
     fresh-left : (cells : List ℕ) → soundCells (chipOf d) cells ≡ true → ((i : ℕ) → i < d .words + readingTail → programmable (d .words) i ≡ false → getD cells i 0 ≡ getD reading i 0)
         → Leaves d (streamText (bytesOf (freshSteps d image))) cells (wantedFreshText table sheet hex)
@@ -234,14 +234,14 @@ fresh-leaves table sheet hex printed cells sound held =
     u : Good table sheet hex (freshes table sheet hex)
     u = fresh-good table sheet hex printed
 
--- ---- wanted refuses just what update refuses, with the same line
+-- ---- wanted refuses just what update refuses, with the same line and column
 
 module _ (table sheet hex : List ℕ) where
   same-refusal : (plan : ℕ) (text other x y : List ℕ) → x ≡ told table sheet hex plan text → y ≡ told table sheet hex plan other
       → (Good table sheet hex plan → isRefusal text ≡ false) → isRefusal x ≡ true → y ≡ x
   same-refusal plan text other x y p q own e =
       q
-      ∙ (judged-alike (boardNumber table sheet) (hexOf table sheet hex .number) (hexOf table sheet hex .line) plan text other own (ap isRefusal (sym p) ∙ e)
+      ∙ (judged-alike (boardNumber table sheet) (hexOf table sheet hex .number) (hexOf table sheet hex .line) (hexOf table sheet hex .column) plan text other own (ap isRefusal (sym p) ∙ e)
       ∙ sym p)
 
   left : (plan : ℕ) (words : List ℕ) → Good table sheet hex plan → isRefusal (sheetText (recordOf table sheet) words) ≡ false

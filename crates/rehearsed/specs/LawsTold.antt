@@ -22,9 +22,9 @@ use Rattle.print.specs.Print.{refusedText}
 use Rattle.listings.specs.Streams.{streamText}
 use Rattle.rehearsed.specs.Rehearsed.{isRefusal}
 
-pub refusal-told : (number line : ℕ) → isRefusal (refusedText number line) ≡ true
+pub refusal-told : (number line column : ℕ) → isRefusal (refusedText number line column) ≡ true
 unfolding isRefusal refusedText
-refusal-told number line = refl
+refusal-told number line column = refl
 
 -- no stream is taken for a refusal: each code has a digit first
 code-told : (o : Order) (s : List Order) → isRefusal (streamText (bytesOf (o ∷ s))) ≡ false
@@ -60,22 +60,22 @@ sheet-told d sound reading = let small : d .id < 0x4000 = rules d sound .id-word
 
 -- ---- a text, or a refusal
 
-module _ (number line : ℕ) (text : List ℕ) where
-  pub not-refused : isRefusal (pick (eqb number 0) text (refusedText number line)) ≡ false → number ≡ 0
+module _ (number line column : ℕ) (text : List ℕ) where
+  pub not-refused : isRefusal (pick (eqb number 0) text (refusedText number line column)) ≡ false → number ≡ 0
   not-refused told = by (eqb number 0) refl
     where
       by : (b : Bool) → eqb number 0 ≡ b → number ≡ 0
       by true e = eqb-true number 0 e
-      by false e = absurd (true-not-false (ap isRefusal (pick-false (eqb number 0) text (refusedText number line) e) ∙ refusal-told number line) told)
+      by false e = absurd (true-not-false (ap isRefusal (pick-false (eqb number 0) text (refusedText number line column) e) ∙ refusal-told number line column) told)
 
-  pub text-is : number ≡ 0 → pick (eqb number 0) text (refusedText number line) ≡ text
-  text-is z = pick-true (eqb number 0) text (refusedText number line) (eq-eqb number 0 z)
+  pub text-is : number ≡ 0 → pick (eqb number 0) text (refusedText number line column) ≡ text
+  text-is z = pick-true (eqb number 0) text (refusedText number line column) (eq-eqb number 0 z)
 
 -- ---- three judges one after another: the board, the HEX file, the planner
 
-unfoldable pub judged : (board hex : ℕ) → (line : ℕ) → (plan : ℕ) → (text : List ℕ) → List ℕ
-judged board hex line plan text =
-    pick (eqb board 0) (pick (eqb hex 0) (pick (eqb plan 0) text (refusedText plan 0)) (refusedText hex line)) (refusedText board 0)
+unfoldable pub judged : (board hex : ℕ) → (line column : ℕ) → (plan : ℕ) → (text : List ℕ) → List ℕ
+judged board hex line column plan text =
+    pick (eqb board 0) (pick (eqb hex 0) (pick (eqb plan 0) text (refusedText plan 0 0)) (refusedText hex line column)) (refusedText board 0 0)
 
 -- none of them refuses
 pub record Unrefused (board hex plan : ℕ) : Type 0 where
@@ -83,48 +83,48 @@ pub record Unrefused (board hex plan : ℕ) : Type 0 where
   pub hex-is : hex ≡ 0
   pub plan-is : plan ≡ 0
 
-module _ (board hex line plan : ℕ) (text : List ℕ) where
-  pub judged-text : Unrefused board hex plan → judged board hex line plan text ≡ text
+module _ (board hex line column plan : ℕ) (text : List ℕ) where
+  pub judged-text : Unrefused board hex plan → judged board hex line column plan text ≡ text
   unfolding judged
   judged-text u =
-      text-is board 0 (pick (eqb hex 0) (pick (eqb plan 0) text (refusedText plan 0)) (refusedText hex line)) (u .board-is)
-      ∙ (text-is hex line (pick (eqb plan 0) text (refusedText plan 0)) (u .hex-is) ∙ text-is plan 0 text (u .plan-is))
+      text-is board 0 0 (pick (eqb hex 0) (pick (eqb plan 0) text (refusedText plan 0 0)) (refusedText hex line column)) (u .board-is)
+      ∙ (text-is hex line column (pick (eqb plan 0) text (refusedText plan 0 0)) (u .hex-is) ∙ text-is plan 0 0 text (u .plan-is))
 
-  pub unrefused : isRefusal (judged board hex line plan text) ≡ false → Unrefused board hex plan
+  pub unrefused : isRefusal (judged board hex line column plan text) ≡ false → Unrefused board hex plan
   unfolding judged
   unrefused told = record { board-is = first; hex-is = second; plan-is = third }
     where
       last : List ℕ
-      last = pick (eqb plan 0) text (refusedText plan 0)
+      last = pick (eqb plan 0) text (refusedText plan 0 0)
 
       rest : List ℕ
-      rest = pick (eqb hex 0) last (refusedText hex line)
+      rest = pick (eqb hex 0) last (refusedText hex line column)
 
       first : board ≡ 0
-      first = not-refused board 0 rest told
+      first = not-refused board 0 0 rest told
 
       after-board : isRefusal rest ≡ false
-      after-board = ap isRefusal (sym (text-is board 0 rest first)) ∙ told
+      after-board = ap isRefusal (sym (text-is board 0 0 rest first)) ∙ told
 
       second : hex ≡ 0
-      second = not-refused hex line last after-board
+      second = not-refused hex line column last after-board
 
       after-hex : isRefusal last ≡ false
-      after-hex = ap isRefusal (sym (text-is hex line last second)) ∙ after-board
+      after-hex = ap isRefusal (sym (text-is hex line column last second)) ∙ after-board
 
       third : plan ≡ 0
-      third = not-refused plan 0 text after-hex
+      third = not-refused plan 0 0 text after-hex
 
 -- two texts that the same three judge are the same refusal, if the one is a refusal that is not its own text
-module _ (board hex line plan : ℕ) (text other : List ℕ) where
-  pub judged-alike : (Unrefused board hex plan → isRefusal text ≡ false) → isRefusal (judged board hex line plan text) ≡ true → judged board hex line plan other ≡ judged board hex line plan text
+module _ (board hex line column plan : ℕ) (text other : List ℕ) where
+  pub judged-alike : (Unrefused board hex plan → isRefusal text ≡ false) → isRefusal (judged board hex line column plan text) ≡ true → judged board hex line column plan other ≡ judged board hex line column plan text
   unfolding judged
   judged-alike own e = by (eqb board 0) refl (eqb hex 0) refl (eqb plan 0) refl e
     where
       by : (a : Bool) → eqb board 0 ≡ a → (b : Bool) → eqb hex 0 ≡ b → (c : Bool) → eqb plan 0 ≡ c
-          → isRefusal (pick a (pick b (pick c text (refusedText plan 0)) (refusedText hex line)) (refusedText board 0)) ≡ true
-          → pick a (pick b (pick c other (refusedText plan 0)) (refusedText hex line)) (refusedText board 0)
-          ≡ pick a (pick b (pick c text (refusedText plan 0)) (refusedText hex line)) (refusedText board 0)
+          → isRefusal (pick a (pick b (pick c text (refusedText plan 0 0)) (refusedText hex line column)) (refusedText board 0 0)) ≡ true
+          → pick a (pick b (pick c other (refusedText plan 0 0)) (refusedText hex line column)) (refusedText board 0 0)
+          ≡ pick a (pick b (pick c text (refusedText plan 0 0)) (refusedText hex line column)) (refusedText board 0 0)
       by true p true q true r t =
           absurd (true-not-false {b = isRefusal text} (unfold pick in t) (own (record { board-is = eqb-true board 0 p; hex-is = eqb-true hex 0 q; plan-is = eqb-true plan 0 r })))
       by true p true q false r t = unfold pick in refl

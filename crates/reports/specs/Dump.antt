@@ -17,6 +17,6 @@ imageOf words reading = build (words + readingTail) (λ i. pick (programmable wo
 
 unfoldable pub dumpText : (table sheet : List ℕ) → List ℕ
 dumpText table sheet =
-    unless (eqb (boardNumber table sheet) 0) (refusedText (boardNumber table sheet) 0)
-    (unless (not (protected (recordOf table sheet .words) (boardReading table sheet))) (refusedText 23 0)
+    unless (eqb (boardNumber table sheet) 0) (refusedText (boardNumber table sheet) 0 0)
+    (unless (not (protected (recordOf table sheet .words) (boardReading table sheet))) (refusedText 23 0 0)
     (hexText (recordOf table sheet .words) (imageOf (recordOf table sheet .words) (boardReading table sheet))))

@@ -148,12 +148,12 @@ board-good table sheet z = ap (readingOk (recordOf table sheet .words)) (sym (b 
 pub dump-short : (table sheet : List ℕ) → length (dumpText table sheet) ≤ mostDump
 unfolding dumpText
 dump-short table sheet =
-    either-short mostDump (omega arith) (boardNumber table sheet) 0 _
+    either-short mostDump (omega arith) (boardNumber table sheet) 0 0 _
     (λ z. by (not (protected (recordOf table sheet .words) (boardReading table sheet)))
-    (text-few (recordOf table sheet) (board-sound table sheet z) (boardReading table sheet) (board-good table sheet z)) (refused-short 23 0))
+    (text-few (recordOf table sheet) (board-sound table sheet z) (boardReading table sheet) (board-good table sheet z)) (refused-short 23 0 0))
   where
-    by : (c : Bool) → length (hexText (recordOf table sheet .words) (imageOf (recordOf table sheet .words) (boardReading table sheet))) ≤ mostDump → length (refusedText 23 0) ≤ 30
-        → length (pick c (hexText (recordOf table sheet .words) (imageOf (recordOf table sheet .words) (boardReading table sheet))) (refusedText 23 0)) ≤ mostDump
+    by : (c : Bool) → length (hexText (recordOf table sheet .words) (imageOf (recordOf table sheet .words) (boardReading table sheet))) ≤ mostDump → length (refusedText 23 0 0) ≤ 41
+        → length (pick c (hexText (recordOf table sheet .words) (imageOf (recordOf table sheet .words) (boardReading table sheet))) (refusedText 23 0 0)) ≤ mostDump
     by true h s = unfold pick in h
     by false h s = unfold pick in omega arith
 
@@ -162,20 +162,20 @@ pub dump-fits : (table sheet : List ℕ) → length (dumpText table sheet) ≤ 6
 dump-fits table sheet = let s : length (dumpText table sheet) ≤ mostDump = dump-short table sheet in omega arith
 
 module _ (table sheet : List ℕ) (number : ℕ) (e : number ≡ boardNumber table sheet) where
-  pub dump-refused : (number ≡ 0 → ⊥) → refusedText number 0 ≡ dumpText table sheet
+  pub dump-refused : (number ≡ 0 → ⊥) → refusedText number 0 0 ≡ dumpText table sheet
   unfolding dumpText
-  dump-refused n = board-told table sheet number e (λ k. refusedText k 0) _ n
+  dump-refused n = board-told table sheet number e (λ k. refusedText k 0 0) _ n
 
   module _ (z : number ≡ 0) (d : Device) (reading : List ℕ) (b : Board table sheet d reading) (hidden-words : Bool)
       (q : hidden-words ≡ protected (d .words) (take (d .words + readingTail) reading)) where
     protected-is : hidden-words ≡ protected (recordOf table sheet .words) (boardReading table sheet)
     protected-is = q ∙ (ap (protected (d .words)) (b .front) ∙ ap (λ x. protected (x .words) (boardReading table sheet)) (b .record-is))
 
-    pub dump-23 : hidden-words ≡ true → refusedText 23 0 ≡ dumpText table sheet
+    pub dump-23 : hidden-words ≡ true → refusedText 23 0 0 ≡ dumpText table sheet
     unfolding dumpText
     dump-23 t =
         sym (pick-false _ _ _ (ap not (sym protected-is ∙ t)))
-        ∙ board-text table sheet number e _ (refusedText (boardNumber table sheet) 0) z
+        ∙ board-text table sheet number e _ (refusedText (boardNumber table sheet) 0 0) z
 
     -- the writer's answer, and what it leaves in a buffer of the most bytes
     module _ (f : hidden-words ≡ false) (hides : List ℕ)
@@ -200,7 +200,7 @@ module _ (table sheet : List ℕ) (number : ℕ) (e : number ≡ boardNumber tab
           ap (hexText (d .words)) (front ∙ ap (imageOf (d .words)) (b .front))
           ∙ (ap (λ x. hexText (x .words) (imageOf (x .words) (boardReading table sheet))) (b .record-is)
           ∙ (sym (pick-true _ _ _ (ap not (sym protected-is ∙ f)))
-          ∙ board-text table sheet number e _ (refusedText (boardNumber table sheet) 0) z))
+          ∙ board-text table sheet number e _ (refusedText (boardNumber table sheet) 0 0) z))
 
       pub dump-written : (r : WrittenHex) (out : List ℕ) → WroteHex d (take (d .words + readingTail) hides) (replicate mostDump 0) r out → Dumped (dumpText table sheet) r out
       dump-written r out p = rw text-is at (dumped d (b .sound) (take (d .words + readingTail) hides) ok few r out p)

@@ -11,6 +11,7 @@ use borrow.Author.Tests.{eq-eqb, ne-eqb}
 use Rattle.words.specs.Choice.{pick}
 use Rattle.words.specs.LawsChoice.{pick-true, pick-false}
 use Rattle.words.specs.Address.{configBase, addressOf}
+use Rattle.words.specs.First.{firstTo}
 use Rattle.device.specs.declared.Device.{Device}
 use Rattle.device.specs.Memory.{readingTail, protected}
 use Rattle.device.specs.Record.{mostWords}
@@ -19,7 +20,7 @@ use Rattle.sheet.specs.LawsSheet.{length-words, read-sound}
 use Rattle.judge.specs.declared.Sum.{Sum}
 use Rattle.judge.specs.declared.Verdict.{Verdict}
 use Rattle.judge.specs.Checksum.{checksumOf, summed}
-use Rattle.judge.specs.Count.{countTo, firstTo}
+use Rattle.judge.specs.Count.{countTo}
 use Rattle.judge.specs.Verify.{entryDiffers, bare, verdictOf, verified}
 use Rattle.judge.specs.LawsChecksum.{summed-0}
 use Rattle.judge.specs.LawsCount.{count-le}
@@ -34,9 +35,9 @@ use Rattle.reports.specs.Programs.{checksumText, verdictLine, verifyNumb
 -- ---- checksum
 
 module _ (table sheet : List ℕ) (number : ℕ) (e : number ≡ boardNumber table sheet) where
-  pub checksum-refused : (number ≡ 0 → ⊥) → refusedText number 0 ≡ checksumText table sheet
+  pub checksum-refused : (number ≡ 0 → ⊥) → refusedText number 0 0 ≡ checksumText table sheet
   unfolding checksumText
-  checksum-refused n = board-told table sheet number e (λ k. refusedText k 0) _ n
+  checksum-refused n = board-told table sheet number e (λ k. refusedText k 0 0) _ n
 
   pub checksum-found : number ≡ 0 → (d : Device) (reading : List ℕ) → Board table sheet d reading
       → (s : Sum) → s ≡ summed d (take (d .words + readingTail) reading) → sumText (s .sum) ≡ checksumText table sheet
@@ -45,20 +46,20 @@ module _ (table sheet : List ℕ) (number : ℕ) (e : number ≡ boardNumber tab
       ap (λ x. sumText (x .sum)) (is ∙ summed-0 d (take (d .words + readingTail) reading) (b .sound) (b .good))
       ∙ (ap (λ l. sumText (checksumOf d l)) (b .front)
       ∙ (ap (λ x. sumText (checksumOf x (boardReading table sheet))) (b .record-is)
-      ∙ board-text table sheet number e (sumText (checksumOf (recordOf table sheet) (boardReading table sheet))) (refusedText (boardNumber table sheet) 0) z))
+      ∙ board-text table sheet number e (sumText (checksumOf (recordOf table sheet) (boardReading table sheet))) (refusedText (boardNumber table sheet) 0 0) z))
 
 pub checksum-short : (table sheet : List ℕ) → length (checksumText table sheet) ≤ 64
 unfolding checksumText
 checksum-short table sheet =
-    either-short 64 (omega arith) (boardNumber table sheet) 0 _
+    either-short 64 (omega arith) (boardNumber table sheet) 0 0 _
     (λ z. let few : length (sumText (checksumOf (recordOf table sheet) (boardReading table sheet))) ≤ 30 = sum-short _ in omega arith)
 
 -- ---- verify
 
 module _ (table sheet wanted : List ℕ) (number : ℕ) (e : number ≡ boardNumber table sheet) where
-  pub verify-refused : (number ≡ 0 → ⊥) → refusedText number 0 ≡ verifyText table sheet wanted
+  pub verify-refused : (number ≡ 0 → ⊥) → refusedText number 0 0 ≡ verifyText table sheet wanted
   unfolding verifyText
-  verify-refused n = ap (λ k. refusedText k 0) (sym same) ∙ sym (pick-false _ _ _ (ne-eqb (verifyNumber table sheet wanted) 0 (λ z. n (sym same ∙ z))))
+  verify-refused n = ap (λ k. refusedText k 0 0) (sym same) ∙ sym (pick-false _ _ _ (ne-eqb (verifyNumber table sheet wanted) 0 (λ z. n (sym same ∙ z))))
     where
       same : verifyNumber table sheet wanted ≡ number
       same = unfold verifyNumber in pick-false _ _ _ (ne-eqb (boardNumber table sheet) 0 (λ z. n (e ∙ z))) ∙ sym e
@@ -72,11 +73,11 @@ module _ (table sheet wanted : List ℕ) (number : ℕ) (e : number ≡ boardNum
         pick-true _ _ _ (eq-eqb (boardNumber table sheet) 0 (sym e ∙ z))
         ∙ ap (λ x. pick (sheetOk x wanted) 0 14) (sym (b .record-is))
 
-    pub verify-unwanted : (n ≡ 0 → ⊥) → refusedText 14 0 ≡ verifyText table sheet wanted
+    pub verify-unwanted : (n ≡ 0 → ⊥) → refusedText 14 0 0 ≡ verifyText table sheet wanted
     unfolding verifyText
     verify-unwanted h =
         let bad : verifyNumber table sheet wanted ≡ 14 = judged-is ∙ pick-false _ _ _ (sheet-bad d (b .sound) wanted buffer long n f h) in
-        ap (λ k. refusedText k 0) (sym bad) ∙ sym (pick-false _ _ _ (ne-eqb (verifyNumber table sheet wanted) 0 (λ y. omega arith)))
+        ap (λ k. refusedText k 0 0) (sym bad) ∙ sym (pick-false _ _ _ (ne-eqb (verifyNumber table sheet wanted) 0 (λ y. omega arith)))
 
     module _ (y : n ≡ 0) (words : List ℕ) (w : words ≡ readBuffer d wanted buffer) (rest : List ℕ) where
       good : sheetOk d wanted ≡ true
@@ -135,7 +136,7 @@ module _ (table sheet wanted : List ℕ) (number : ℕ) (e : number ≡ boardNum
 pub verify-short : (table sheet wanted : List ℕ) → length (verifyText table sheet wanted) ≤ 64
 unfolding verifyText
 verify-short table sheet wanted =
-    either-short 64 (omega arith) (verifyNumber table sheet wanted) 0 _
+    either-short 64 (omega arith) (verifyNumber table sheet wanted) 0 0 _
     (λ z. unfold verdictLine in omega (arith, verdict-short (verdict .number) (verdict .address .0) (verdict .count)))
   where
     verdict : Verdict

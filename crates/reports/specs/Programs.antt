@@ -13,7 +13,7 @@ use Rattle.board.specs.Open.{recordOf, boardNumber, boardReading}
 -- four hex digits
 unfoldable pub checksumText : (table sheet : List ℕ) → List ℕ
 checksumText table sheet =
-    unless (eqb (boardNumber table sheet) 0) (refusedText (boardNumber table sheet) 0)
+    unless (eqb (boardNumber table sheet) 0) (refusedText (boardNumber table sheet) 0 0)
     (sumText (checksumOf (recordOf table sheet) (boardReading table sheet)))
 
 -- a verdict's line
@@ -29,5 +29,5 @@ verifyNumber table sheet wanted =
 
 unfoldable pub verifyText : (table sheet wanted : List ℕ) → List ℕ
 verifyText table sheet wanted =
-    unless (eqb (verifyNumber table sheet wanted) 0) (refusedText (verifyNumber table sheet wanted) 0)
+    unless (eqb (verifyNumber table sheet wanted) 0) (refusedText (verifyNumber table sheet wanted) 0 0)
     (verdictLine (verdictOf (recordOf table sheet) (wordsIn (recordOf table sheet .words) wanted) (boardReading table sheet)))

@@ -11,7 +11,7 @@ pub fn checksum(table: &[u8], sheet: &[u8], out: &mut [u8]) -> usize
     let mut reading = [0u16; board::MOST_READING];
     let opened = board::open_board(table, sheet, &mut reading);
     if opened.number != 0 {
-        return print::refusal(out, opened.number, 0);
+        return print::refusal(out, opened.number, 0, 0);
     }
     let device = opened.device;
     let count = (device.words as usize) + READING_TAIL;

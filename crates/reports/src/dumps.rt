@@ -18,12 +18,12 @@ pub fn dump(table: &[u8], sheet: &[u8], out: &mut [u8]) -> usize
     let mut image = [0u16; board::MOST_READING];
     let opened = board::open_board(table, sheet, &mut image);
     if opened.number != 0 {
-        return print::refusal(out, opened.number, 0);
+        return print::refusal(out, opened.number, 0, 0);
     }
     let device = opened.device;
     let count = (device.words as usize) + READING_TAIL;
     if device::is_protected(device.words, &image[..count]) {
-        return print::refusal(out, 23, 0);
+        return print::refusal(out, 23, 0, 0);
     }
     // the reading is an image but for the three words that are never given
     let first = (device.words as usize) + IDS;

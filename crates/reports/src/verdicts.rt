@@ -11,13 +11,13 @@ pub fn verify(table: &[u8], sheet: &[u8], wanted: &[u8], out: &mut [u8]) -> usiz
     let mut reading = [0u16; board::MOST_READING];
     let opened = board::open_board(table, sheet, &mut reading);
     if opened.number != 0 {
-        return print::refusal(out, opened.number, 0);
+        return print::refusal(out, opened.number, 0, 0);
     }
     let device = opened.device;
     let count = (device.words as usize) + READING_TAIL;
     let mut aim = [0u16; board::MOST_READING];
     if sheet::read_sheet(device, wanted, &mut aim[..count]) != 0 {
-        return print::refusal(out, 14, 0);
+        return print::refusal(out, 14, 0, 0);
     }
     let verdict = judge::verify(device, &aim[..count], &reading[..count]);
     let address = verdict.address;

@@ -157,7 +157,7 @@ module _ (d : Device) (reading : List ℕ) (ok : readingOk (d .words) reading �
   cells′-sound : soundCells (chipOf d) cells′ ≡ true
   cells′-sound = ap (soundCells (chipOf d)) (g .cells-left) ∙ ran-sound d stream mostSteps cells (replicate mostSteps 0) (cells-sound d reading ok cells k)
 
-  pub run-stopped : (a .number ≡ 0 → ⊥) → refusedText (a .number) (a .steps + 1) ≡ playedText d (played d reading stream)
+  pub run-stopped : (a .number ≡ 0 → ⊥) → refusedText (a .number) (a .steps + 1) 1 ≡ playedText d (played d reading stream)
   unfolding playedText
   run-stopped n = rw (number-is, steps-are) (sym (pick-false (eqb (played d reading stream .number) 0) _ _ (ne-eqb (played d reading stream .number) 0 (λ z. n (number-is ∙ z)))))
 
@@ -222,4 +222,4 @@ module _ (d : Device) (sound : deviceOk d ≡ true) (cells : List ℕ) (ok : sou
 
 pub played-short : (d : Device) → deviceOk d ≡ true → (r : Run Target) → length (playedText d r) ≤ 46135
 unfolding playedText
-played-short d sound r = either-short 46135 (omega arith) (r .number) (r .done + 1) _ (λ z. rw (length-sheet d (take (d .words + readingTail) (r .target .cells))) (sheet-most d sound))
+played-short d sound r = either-short 46135 (omega arith) (r .number) (r .done + 1) 1 _ (λ z. rw (length-sheet d (take (d .words + readingTail) (r .target .cells))) (sheet-most d sound))

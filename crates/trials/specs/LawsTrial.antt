@@ -23,17 +23,17 @@ use Rattle.trials.specs.LawsPlayed.{played-short}
 -- ---- the text of the program
 
 module _ (table sheet stream : List ℕ) (number : ℕ) (e : number ≡ boardNumber table sheet) where
-  pub trial-refused : (number ≡ 0 → ⊥) → refusedText number 0 ≡ trialText table sheet stream
+  pub trial-refused : (number ≡ 0 → ⊥) → refusedText number 0 0 ≡ trialText table sheet stream
   unfolding trialText
-  trial-refused n = board-told table sheet number e (λ k. refusedText k 0) _ n
+  trial-refused n = board-told table sheet number e (λ k. refusedText k 0 0) _ n
 
   module _ (z : number ≡ 0) (stream₀ : List ℕ) (line steps : ℕ) (bytes : List ℕ) (read : StreamRead stream stream₀ line steps bytes) where
-    pub trial-34 : (line ≡ 0 → ⊥) → refusedText 34 line ≡ trialText table sheet stream
+    pub trial-34 : (line ≡ 0 → ⊥) → refusedText 34 line 1 ≡ trialText table sheet stream
     unfolding trialText
     trial-34 n =
-        ap (refusedText 34) (read .line-is)
+        ap (λ k. refusedText 34 k 1) (read .line-is)
         ∙ (sym (pick-false (eqb (badLine stream) 0) _ _ (ne-eqb (badLine stream) 0 (λ y. n (read .line-is ∙ y))))
-        ∙ board-text table sheet number e _ (refusedText (boardNumber table sheet) 0) z)
+        ∙ board-text table sheet number e _ (refusedText (boardNumber table sheet) 0 0) z)
 
     pub trial-run : line ≡ 0 → length stream₀ ≡ 98304 → (d : Device) (reading : List ℕ) → Board table sheet d reading
         → playedText d (played d (take (d .words + readingTail) reading) (take (3 * steps) bytes)) ≡ trialText table sheet stream
@@ -43,7 +43,7 @@ module _ (table sheet stream : List ℕ) (number : ℕ) (e : number ≡ boardNum
         ∙ (ap (λ l. playedText d (played d l (streamOf stream))) (b .front)
         ∙ (ap (λ x. playedText x (played x (boardReading table sheet) (streamOf stream))) (b .record-is)
         ∙ (sym (pick-true (eqb (badLine stream) 0) _ _ (eq-eqb (badLine stream) 0 (sym (read .line-is) ∙ y)))
-        ∙ board-text table sheet number e _ (refusedText (boardNumber table sheet) 0) z)))
+        ∙ board-text table sheet number e _ (refusedText (boardNumber table sheet) 0 0) z)))
       where
         front : take (3 * steps) bytes ≡ streamOf stream
         front =
@@ -56,9 +56,9 @@ module _ (table sheet stream : List ℕ) (number : ℕ) (e : number ≡ boardNum
 pub trial-short : (table sheet stream : List ℕ) → length (trialText table sheet stream) ≤ 46135
 unfolding trialText
 trial-short table sheet stream =
-    either-short 46135 (omega arith) (boardNumber table sheet) 0 _ (λ z. by (eqb (badLine stream) 0) (board-sound table sheet z) (refused-short 34 (badLine stream)))
+    either-short 46135 (omega arith) (boardNumber table sheet) 0 0 _ (λ z. by (eqb (badLine stream) 0) (board-sound table sheet z) (refused-short 34 (badLine stream) 1))
   where
-    by : (c : Bool) → deviceOk (recordOf table sheet) ≡ true → length (refusedText 34 (badLine stream)) ≤ 30
-        → length (pick c (playedText (recordOf table sheet) (played (recordOf table sheet) (boardReading table sheet) (streamOf stream))) (refusedText 34 (badLine stream))) ≤ 46135
+    by : (c : Bool) → deviceOk (recordOf table sheet) ≡ true → length (refusedText 34 (badLine stream) 1) ≤ 41
+        → length (pick c (playedText (recordOf table sheet) (played (recordOf table sheet) (boardReading table sheet) (streamOf stream))) (refusedText 34 (badLine stream) 1)) ≤ 46135
     by true sound s = unfold pick in played-short (recordOf table sheet) sound _
     by false sound s = unfold pick in omega arith

@@ -63,12 +63,12 @@ played d reading stream = ran d stream mostSteps (cellsOf reading) (replicate mo
 -- the sheet after the run, or the refused step's number at its line
 unfoldable pub playedText : Device → Run Target → List ℕ
 playedText d r =
-    unless (eqb (r .number) 0) (refusedText (r .number) (r .done + 1))
+    unless (eqb (r .number) 0) (refusedText (r .number) (r .done + 1) 1)
     (sheetText d (take (d .words + readingTail) (r .target .cells)))
 
 -- the board, then the printed stream, 34 at its line, then the run
 unfoldable pub trialText : (table sheet stream : List ℕ) → List ℕ
 trialText table sheet stream =
-    unless (eqb (boardNumber table sheet) 0) (refusedText (boardNumber table sheet) 0)
-    (unless (eqb (badLine stream) 0) (refusedText 34 (badLine stream))
+    unless (eqb (boardNumber table sheet) 0) (refusedText (boardNumber table sheet) 0 0)
+    (unless (eqb (badLine stream) 0) (refusedText 34 (badLine stream) 1)
     (playedText (recordOf table sheet) (played (recordOf table sheet) (boardReading table sheet) (streamOf stream))))

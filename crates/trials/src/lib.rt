@@ -14,12 +14,12 @@ pub fn trial(table: &[u8], sheet: &[u8], stream: &[u8], out: &mut [u8]) -> usize
     let mut reading = [0u16; board::MOST_READING];
     let opened = board::open_board(table, sheet, &mut reading);
     if opened.number != 0 {
-        return print::refusal(out, opened.number, 0);
+        return print::refusal(out, opened.number, 0, 0);
     }
     let mut bytes = [0u8; typed::MOST_BYTES];
     let read = typed::read_stream(stream, &mut bytes);
     if read.line != 0 {
-        return print::refusal(out, 34, read.line);
+        return print::refusal(out, 34, read.line, 1);
     }
     let device = opened.device;
     let count = (device.words as usize) + READING_TAIL;

@@ -41,7 +41,7 @@ pub(crate) fn put_run(d: Device, reading: &[u16], stream: &[u8], out: &mut [u8])
         &mut words,
     );
     if ran.number != 0 {
-        return print::refusal(out, ran.number, (ran.steps + 1) as u32);
+        return print::refusal(out, ran.number, (ran.steps + 1) as u32, 1);
     }
     put_sheet(d, &cells[..count], out)
 }

@@ -3,6 +3,7 @@ pub mod Choice
 pub mod Word
 pub mod Address
 pub mod Lists
+pub mod First
 pub mod LawsPromise
 pub mod LawsChoice
 pub mod LawsTests
@@ -10,4 +11,5 @@ pub mod LawsWord
 pub mod LawsMask
 pub mod LawsAddress
 pub mod LawsLists
+pub mod LawsFirst
 pub mod LawsJoined

@@ -11,7 +11,8 @@ use Rattle.device.specs.Record.{rowOk, wordsOk, deviceOk, idFits}
 use Rattle.device.specs.Memory
 use Rattle.lines.specs.Lines.{withoutCr, allWithoutCr, linesOf}
 use Rattle.hexread.specs.Line.{byteAt, countOf, offsetOf, typeOf, isRecord, bytesTo, sumOk, typeOk, shapeOk, dataOk, lineNumber}
-use Rattle.hexread.specs.Reader.{wordOf, byteAddress, entryAt, entryOfWord, wordNumber, giveWords, recordStep, lineRefused, lineStep, blankImage, refusedAt, readLines, textRead}
+use Rattle.hexread.specs.Step.{wordOf, byteAddress, entryAt, entryOfWord, wordNumber, giveWords, recordStep, lineRefused, lineStep}
+use Rattle.hexread.specs.Reader.{blankImage, refusedAt, readLines, textRead}
 use Rattle.hexread.specs.Reader
 use Rattle.judge.specs.Checksum.{sumTo, configSum, nibbles, checksumOf}
 use Rattle.plan.specs.Wanted.{known, wanted, differs, some, rowDiffers, idDiffers, configWrites}

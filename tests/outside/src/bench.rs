@@ -1,7 +1,8 @@
 //! What each program prints, from the content of its files.
 
-use crate::board::{board, record, Refusal};
+use crate::board::{board, record};
 use crate::device::Device;
+use crate::refusal::Refusal;
 use crate::words::{capital, capital_word, spelled, NOT_GIVEN, WORD_MAX};
 use crate::{hex, judge, model, print, sheet, streams};
 
@@ -17,9 +18,9 @@ pub struct Printed {
 fn printed(result: Result<(u32, Vec<u8>), Refusal>) -> Printed {
     match result {
         Ok((number, text)) => Printed { number, text },
-        Err((number, line)) => Printed {
-            number,
-            text: print::refusal(number, line as u64),
+        Err(r) => Printed {
+            number: r.number,
+            text: print::refusal(r.number, r.line as u64, r.column as u64),
         },
     }
 }
@@ -34,14 +35,14 @@ pub fn stream_text(stream: &[u8]) -> Vec<u8> {
 
 pub fn checksum(table: &[u8], sheet: &[u8]) -> Printed {
     printed(board(table, sheet).and_then(|(d, reading)| {
-        let sum = judge::checksum(&d, &reading).map_err(|number| (number, 0))?;
+        let sum = judge::checksum(&d, &reading)?;
         Ok((0, print::sum(sum)))
     }))
 }
 
 pub fn verify(table: &[u8], sheet: &[u8], wanted: &[u8]) -> Printed {
     printed(board(table, sheet).and_then(|(d, reading)| {
-        let wanted = sheet::reading(&d, wanted).ok_or((14, 0))?;
+        let wanted = sheet::reading(&d, wanted).ok_or(14)?;
         let (number, address, count) = judge::verify(&d, &wanted, &reading);
         Ok((number, print::verdict(number, address, count as u64)))
     }))
@@ -56,7 +57,7 @@ pub fn update(table: &[u8], sheet: &[u8], text: &[u8]) -> Printed {
     printed(board(table, sheet).and_then(|(d, reading)| {
         let image = hex::image(&d, text, hex::PROGRAM_TEXT_MAX)?;
         if let Some(number) = streams::update_refusal(&d, &image, &reading) {
-            return Err((number, 0));
+            return Err(number.into());
         }
         let wanted = streams::wanted_over(&d, &image, &reading);
         Ok((
@@ -70,7 +71,7 @@ pub fn fresh(table: &[u8], sheet: &[u8], text: &[u8]) -> Printed {
     printed(board(table, sheet).and_then(|(d, reading)| {
         let image = hex::image(&d, text, hex::PROGRAM_TEXT_MAX)?;
         if reading[d.p() + 6] != d.id {
-            return Err((22, 0));
+            return Err(22.into());
         }
         Ok((
             0,
@@ -87,7 +88,7 @@ pub fn wanted(table: &[u8], sheet: &[u8], text: &[u8]) -> Printed {
     printed(board(table, sheet).and_then(|(d, reading)| {
         let image = hex::image(&d, text, hex::PROGRAM_TEXT_MAX)?;
         match streams::update_refusal(&d, &image, &reading) {
-            Some(number) => Err((number, 0)),
+            Some(number) => Err(number.into()),
             None => Ok((
                 0,
                 sheet::text(&d, &streams::wanted_over(&d, &image, &reading)),
@@ -101,7 +102,7 @@ pub fn wanted_fresh(table: &[u8], sheet: &[u8], text: &[u8]) -> Printed {
     printed(board(table, sheet).and_then(|(d, reading)| {
         let image = hex::image(&d, text, hex::PROGRAM_TEXT_MAX)?;
         if reading[d.p() + 6] != d.id {
-            return Err((22, 0));
+            return Err(22.into());
         }
         let kept = d.p() + 4..d.p() + 7;
         let mut wanted = streams::wanted_blank(&d, &image);
@@ -120,6 +121,15 @@ fn printed_step(line: &[u8]) -> Option<[u8; 3]> {
     Some([code, low, high])
 }
 
+/// A step is a line of a printed stream, and the whole line is to blame.
+fn refused_line(number: u32, line: usize) -> Refusal {
+    Refusal {
+        number,
+        line,
+        column: 1,
+    }
+}
+
 /// The steps of a printed stream; the first line that is none, or is one too many, is 34.
 fn steps_of(text: &[u8]) -> Result<Vec<u8>, Refusal> {
     // After the last LF there is a line only if anything stands there.
@@ -130,7 +140,7 @@ fn steps_of(text: &[u8]) -> Result<Vec<u8>, Refusal> {
     }
     for (i, line) in body.split(|&c| c == b'\n').enumerate() {
         let step = printed_step(line).filter(|_| i < TRIAL_LINES);
-        stream.extend(step.ok_or((34, i + 1))?);
+        stream.extend(step.ok_or(refused_line(34, i + 1))?);
     }
     Ok(stream)
 }
@@ -144,7 +154,7 @@ pub fn trial(table: &[u8], sheet: &[u8], text: &[u8]) -> Printed {
         let mut words = vec![0; TRIAL_LINES];
         let run = model::run(&d, &mut cells, &stream, u64::MAX, &mut words);
         if run.number != 0 {
-            return Err((run.number, run.steps as usize + 1));
+            return Err(refused_line(run.number, run.steps as usize + 1));
         }
         Ok((0, sheet::text(&d, &cells[..d.entries()])))
     }))
@@ -161,7 +171,7 @@ pub fn whole_image(d: &Device, reading: &[u16]) -> Vec<u16> {
 pub fn dump(table: &[u8], sheet: &[u8]) -> Printed {
     printed(board(table, sheet).and_then(|(d, reading)| {
         if d.protected(&reading) {
-            return Err((23, 0));
+            return Err(23.into());
         }
         Ok((0, hex::text(&d, &whole_image(&d, &reading))))
     }))
@@ -185,7 +195,7 @@ fn answered(d: &Device, text: &[u8]) -> Option<Vec<u16>> {
 /// Reads line 1 of the sheet alone; 21 where the words are not a reading.
 pub fn gather(table: &[u8], sheet: &[u8], text: &[u8]) -> Printed {
     printed(record(table, sheet).and_then(|d| {
-        let words = answered(&d, text).ok_or((21, 0))?;
+        let words = answered(&d, text).ok_or(21)?;
         Ok((0, sheet::text(&d, &words)))
     }))
 }

@@ -1,30 +1,26 @@
 //! A board's table and sheet, opened: the record of the sheet's first line, and the reading.
 
 use crate::device::{find, table, Device};
+use crate::refusal::Refusal;
 use crate::sheet;
 
 /// As many words as the largest reading has.
 pub const READING_MAX: usize = 8_201;
 
-/// Number and line.
-pub type Refusal = (u32, usize);
-
 /// The device of a sheet's first line: 15, 14 for that line, 16.
 pub fn record(text: &[u8], sheet: &[u8]) -> Result<Device, Refusal> {
     // A malformed table is told before the sheet is looked at, whatever ID would be asked for.
     if table(text).is_none() {
-        return Err((15, 0));
+        return Err(15.into());
     }
-    let id = sheet::first_line(sheet).ok_or((14, 0))?;
-    find(text, id)
-        .map(|l| l.device)
-        .map_err(|number| (number, 0))
+    let id = sheet::first_line(sheet).ok_or(14)?;
+    Ok(find(text, id)?.device)
 }
 
 /// Device and reading: the above, then 14 for the rest of the sheet.
 pub fn board(text: &[u8], sheet: &[u8]) -> Result<(Device, Vec<u16>), Refusal> {
     let d = record(text, sheet)?;
-    let reading = sheet::reading(&d, sheet).ok_or((14, 0))?;
+    let reading = sheet::reading(&d, sheet).ok_or(14)?;
     Ok((d, reading))
 }
 
@@ -38,7 +34,7 @@ pub fn answered(text: &[u8], sheet: &[u8]) -> Device {
 /// Opens a board into a buffer of the largest reading: the number; the buffer changes only where that is 0.
 pub fn open(text: &[u8], sheet: &[u8], buffer: &mut [u16]) -> u32 {
     match board(text, sheet) {
-        Err((number, _)) => number,
+        Err(refusal) => refusal.number,
         Ok((_, reading)) => {
             buffer[..reading.len()].copy_from_slice(&reading);
             0

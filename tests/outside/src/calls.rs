@@ -178,7 +178,7 @@ fn opened(number: u32, table: &[u8], sheet: &[u8]) -> Reply {
 
 fn open_record(f: &[Field]) -> Reply {
     let (table, sheet) = (field::bytes(f, 0), field::bytes(f, 1));
-    let number = board::record(table, sheet).err().map_or(0, |(n, _)| n);
+    let number = board::record(table, sheet).err().map_or(0, |r| r.number);
     opened(number, table, sheet)
 }
 
@@ -581,8 +581,16 @@ pub static CALLS: &[Call] = &[
         classes: &[0, 1, 2, 3, 4, 5, 6, 7, 8, 9, 10, 11, 12, 13],
         own: |f| {
             let mut image = field::words(f, D + 1).to_vec();
-            let (number, line) = hex::read(&device_at(f), field::bytes(f, D), &mut image);
-            reply(number, vec![number.into(), line.into(), image.into()])
+            let r = hex::read(&device_at(f), field::bytes(f, D), &mut image);
+            reply(
+                r.number,
+                vec![
+                    r.number.into(),
+                    r.line.into(),
+                    r.column.into(),
+                    image.into(),
+                ],
+            )
         },
     },
     Call {
@@ -702,11 +710,11 @@ pub static CALLS: &[Call] = &[
     },
     Call {
         name: "print.refusal",
-        kinds: &[Num(8), Num(32), Bytes],
+        kinds: &[Num(8), Num(32), Num(32), Bytes],
         classes: &[0, 1],
         own: |f| {
-            let text = print::refusal(n8(f, 0).into(), field::num(f, 1));
-            put_text(&text, field::bytes(f, 2))
+            let text = print::refusal(n8(f, 0).into(), field::num(f, 1), field::num(f, 2));
+            put_text(&text, field::bytes(f, 3))
         },
     },
     Call {

@@ -67,7 +67,7 @@ fn requests() -> Vec<(Vec<u8>, Vec<u8>)> {
     let digits = 1_048_576 - 12 - 4 - 1 - 1;
     let (a, b) = ("5A".repeat(262_144), "C3".repeat(200_000));
     let c = "11".repeat(digits / 2 - 262_144 - 200_000);
-    let text = "refused\t15\t0\n";
+    let text = "refused\t15\t0\t0\n";
     let mut out = c.clone();
     let shown: String = text.bytes().map(|x| format!("{x:02X}")).collect();
     let room = out.len().min(shown.len());
@@ -140,8 +140,11 @@ fn malformed() -> Vec<Vec<u8>> {
         "bench.dump - - - -",
         "bench.gather - - -",
         "bench.gather - - - - -",
-        "print.refusal 256 0 -",
-        "print.refusal 0 4294967296 -",
+        "print.refusal 256 0 0 -",
+        "print.refusal 0 4294967296 0 -",
+        "print.refusal 0 0 4294967296 -",
+        "print.refusal 0 0 -",
+        "print.refusal 0 0 0 0 -",
         "print.sum 65536 -",
         "print.verdict 40 65536 0 -",
         "print.text -",

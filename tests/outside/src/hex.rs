@@ -1,6 +1,7 @@
 //! Intel HEX: reader and writer.
 
 use crate::device::{is_image, Device};
+use crate::refusal::Refusal;
 use crate::words::{digit, NOT_GIVEN, WORD_MAX};
 
 /// The longest text that the reader takes.
@@ -47,6 +48,38 @@ fn record(line: &[u8]) -> Option<Record> {
     })
 }
 
+/// The column of the first character that cannot stand where it is, or the one past the end of a line that stops short;
+/// nothing where the line is a record. Taken from the left, character by character, so that what comes first decides.
+fn broken_at(line: &[u8]) -> Option<usize> {
+    let mut length = 0;
+    // The record's last column, which nobody knows before LL is read.
+    let mut last = usize::MAX;
+    for (i, &c) in line.iter().enumerate() {
+        let column = i + 1;
+        let value = match column {
+            1 => (c == b':').then_some(0),
+            _ if column > last => None,
+            _ => digit(c),
+        };
+        let Some(value) = value else {
+            return Some(column);
+        };
+        if column == 2 || column == 3 {
+            length = 16 * length + usize::from(value);
+        }
+        if column == 3 {
+            last = 2 * (length + 5) + 1;
+        }
+    }
+    (line.len() < last).then_some(line.len() + 1)
+}
+
+/// The column of the first digit of a word's low byte, by the word's place in its record: colon, LL, address and type
+/// stand before the first.
+fn word_column(place: usize) -> usize {
+    10 + 4 * place
+}
+
 /// The entry of the word at a byte address, if a file may give it.
 fn entry(p: usize, byte: u64) -> Option<usize> {
     // Byte addresses of 2^32 and above halve to nothing here either: no word stands there.
@@ -64,57 +97,66 @@ struct Reading {
     ended: bool,
 }
 
+/// Number and column of a line's refusal.
+type Blame = (u32, usize);
+
 impl Reading {
-    fn data(&mut self, p: usize, record: &Record) -> Result<(), u32> {
+    fn data(&mut self, p: usize, record: &Record) -> Result<(), Blame> {
         let base = u64::from(self.upper) * 65_536 + u64::from(record.address);
         for (k, pair) in record.data.chunks(2).enumerate() {
             let word = u16::from_le_bytes([pair[0], pair[1]]);
-            let place = entry(p, base + 2 * k as u64).ok_or(7u32)?;
+            let column = word_column(k);
+            let place = entry(p, base + 2 * k as u64).ok_or((7, column))?;
             if word > WORD_MAX {
-                return Err(8);
+                return Err((8, column));
             }
             if self.image[place] != NOT_GIVEN {
-                return Err(9);
+                return Err((9, column));
             }
             self.image[place] = word;
         }
         Ok(())
     }
 
-    fn line(&mut self, p: usize, line: &[u8]) -> Result<(), u32> {
+    fn line(&mut self, p: usize, line: &[u8]) -> Result<(), Blame> {
         if line.is_empty() {
             return Ok(());
         }
+        // What is wrong with the whole line stands at its first column.
+        let whole = |number| Err((number, 1));
         if self.ended {
-            return Err(11);
+            return whole(11);
         }
-        let record = record(line).ok_or(2u32)?;
+        let Some(record) = record(line) else {
+            let column = broken_at(line).expect("a line that is no record breaks somewhere");
+            return Err((2, column));
+        };
         if !record.sound {
-            return Err(3);
+            return whole(3);
         }
         let length = record.data.len();
         match record.kind {
-            0x00 if record.address % 2 == 1 || length % 2 == 1 => Err(6),
+            0x00 if record.address % 2 == 1 || length % 2 == 1 => whole(6),
             0x00 => self.data(p, &record),
-            0x01 if length != 0 || record.address != 0 => Err(5),
+            0x01 if length != 0 || record.address != 0 => whole(5),
             0x01 => {
                 self.ended = true;
                 Ok(())
             }
-            0x04 if length != 2 || record.address != 0 => Err(5),
+            0x04 if length != 2 || record.address != 0 => whole(5),
             0x04 => {
                 self.upper = u16::from_be_bytes([record.data[0], record.data[1]]);
                 Ok(())
             }
-            _ => Err(4),
+            _ => whole(4),
         }
     }
 }
 
-/// The image of a text for a lawful device, or number and line of the refusal.
-pub fn image(d: &Device, text: &[u8], most: usize) -> Result<Vec<u16>, (u32, usize)> {
+/// The image of a text for a lawful device, or the refusal.
+pub fn image(d: &Device, text: &[u8], most: usize) -> Result<Vec<u16>, Refusal> {
     if text.len() > most {
-        return Err((1, 0));
+        return Err(1.into());
     }
     let mut reading = Reading {
         image: vec![NOT_GIVEN; d.entries()],
@@ -126,28 +168,32 @@ pub fn image(d: &Device, text: &[u8], most: usize) -> Result<Vec<u16>, (u32, usi
         line += 1;
         reading
             .line(d.p(), &text[at..stop])
-            .map_err(|number| (number, line))?;
+            .map_err(|(number, column)| Refusal {
+                number,
+                line,
+                column,
+            })?;
         at = next;
     }
     if reading.ended {
         Ok(reading.image)
     } else {
-        Err((10, 0))
+        Err(10.into())
     }
 }
 
-/// The reader as a call: 13, 12, 1, the lines' numbers, 10; number and line.
-pub fn read(d: &Device, text: &[u8], buffer: &mut [u16]) -> (u32, usize) {
+/// The reader as a call: 13, 12, 1, the lines' numbers, 10; number 0 where nothing is refused.
+pub fn read(d: &Device, text: &[u8], buffer: &mut [u16]) -> Refusal {
     if !d.lawful() {
-        return (13, 0);
+        return 13.into();
     }
     if buffer.len() != d.entries() {
-        return (12, 0);
+        return 12.into();
     }
     match image(d, text, TEXT_MAX) {
         Ok(image) => {
             buffer.copy_from_slice(&image);
-            (0, 0)
+            0.into()
         }
         Err(refusal) => {
             buffer.fill(NOT_GIVEN);

@@ -4,6 +4,7 @@ mod ask;
 mod bench;
 mod board;
 mod calls;
+mod columns;
 mod cuts;
 mod device;
 mod field;
@@ -13,6 +14,7 @@ mod hex;
 mod judge;
 mod model;
 mod print;
+mod refusal;
 mod rng;
 mod sheet;
 mod streams;
@@ -42,6 +44,8 @@ outside --mock                        answer requests on standard input with our
 
 /// Inputs aimed at each number of each call: above the hundred that must be seen, since an aim can miss.
 const AIMED: usize = 125;
+/// Inputs aimed at a number that can stand at many columns of a line: enough that most of these are met.
+const AIMED_AT_COLUMNS: [(u32, usize); 4] = [(2, 2_500), (7, 1_000), (8, 1_000), (9, 1_000)];
 /// A batch's most requests, and about how many bytes it may have.
 const BATCH: usize = 20_000;
 const BATCH_BYTES: usize = 32 << 20;
@@ -138,6 +142,15 @@ fn manner(call: usize, rng: &mut Rng) -> Manner {
     }
 }
 
+/// How many inputs are aimed at a number of a call.
+fn aims(call: &str, class: u32) -> usize {
+    let many = AIMED_AT_COLUMNS.iter().find(|(number, _)| *number == class);
+    match many {
+        Some((_, count)) if call == "ihex.read_hex" => *count,
+        _ => AIMED,
+    }
+}
+
 fn compare_all(o: &Options, peer: &Peer, tally: &mut Tally) {
     let mut rng = Rng::new(o.seed);
     let mut asker = Asker {
@@ -160,7 +173,7 @@ fn compare_all(o: &Options, peer: &Peer, tally: &mut Tally) {
             return;
         }
         for &class in call.classes {
-            for _ in 0..AIMED {
+            for _ in 0..aims(call.name, class) {
                 asker.put(gen::request(i, Manner::Aimed(class), &mut rng));
             }
         }
@@ -191,6 +204,9 @@ fn main() -> ExitCode {
     };
     let mut tally = Tally::new();
     worked::check(&peer, &mut tally);
+    if "ihex.read_hex".starts_with(&o.only) && !peer.hung() {
+        columns::check(&peer, &mut tally);
+    }
     worked::round_trips(&mut Rng::new(o.seed ^ 1), &mut tally);
     if !o.own && !peer.hung() {
         compare_all(&o, &peer, &mut tally);

@@ -1,7 +1,7 @@
 //! The lines that programs print: a refusal, a sum, a verdict.
 
-pub fn refusal(number: u32, line: u64) -> Vec<u8> {
-    format!("refused\t{number}\t{line}\n").into_bytes()
+pub fn refusal(number: u32, line: u64, column: u64) -> Vec<u8> {
+    format!("refused\t{number}\t{line}\t{column}\n").into_bytes()
 }
 
 pub fn sum(word: u16) -> Vec<u8> {

@@ -1,12 +1,18 @@
 //! What was compared: how often it agreed, which numbers were seen, and the first few differences.
 
 use crate::calls::{Request, CALLS};
-use std::collections::BTreeMap;
+use std::collections::{BTreeMap, BTreeSet};
 
 /// Differences that are shown in full; the others are counted.
 const SHOWN: u64 = 12;
 /// How often each number of each call must be seen.
 pub const SEEN_AT_LEAST: u64 = 100;
+/// At how many different columns each number that can stand at many must be seen: 2 at every column of a line up to 522,
+/// 7, 8 and 9 at each of 127 words.
+const COLUMNS_AT_LEAST: [(u32, usize); 4] = [(2, 300), (7, 80), (8, 80), (9, 80)];
+/// The call whose refusals stand at those columns, and the field of its answer that has them.
+const LOCATING: &str = "ihex.read_hex";
+const COLUMN: usize = 2;
 /// The longest part of a field that a message shows.
 const CUT: usize = 72;
 
@@ -15,6 +21,7 @@ pub struct Tally {
     pub failed: u64,
     failed_of: BTreeMap<&'static str, u64>,
     seen: BTreeMap<(usize, u32), u64>,
+    columns: BTreeMap<u32, BTreeSet<u64>>,
 }
 
 /// A text cut to what a message can bear.
@@ -40,6 +47,7 @@ impl Tally {
             failed: 0,
             failed_of: BTreeMap::new(),
             seen: BTreeMap::new(),
+            columns: BTreeMap::new(),
         }
     }
 
@@ -59,6 +67,10 @@ impl Tally {
         let name = request.call().name;
         let own = request.own();
         *self.seen.entry((request.call, own.class)).or_default() += 1;
+        if name == LOCATING {
+            let columns = self.columns.entry(own.class).or_default();
+            columns.insert(crate::field::num(&own.fields, COLUMN));
+        }
         let expected = crate::field::line(name, &own.fields);
         let same = answer == Some(expected.as_slice());
         if !same {
@@ -94,11 +106,30 @@ impl Tally {
                 format!("{} gave numbers that it has not: {others:?}", call.name)
             });
         }
+        if asked(LOCATING) {
+            self.report_columns();
+        }
         if !self.failed_of.is_empty() {
             println!("\nanswers that differ, by call");
             for (name, count) in &self.failed_of {
                 println!("{name:<20} {count}");
             }
+        }
+    }
+
+    /// How many different columns each number was seen at; too few are a failure.
+    fn report_columns(&mut self) {
+        let of = |number| self.columns.get(&number).map_or(0, BTreeSet::len);
+        let counts = COLUMNS_AT_LEAST.map(|(number, least)| (number, least, of(number)));
+        let line = counts.map(|(number, _, count)| format!(" {number}:{count}"));
+        println!(
+            "different columns seen of {LOCATING}, by number{}",
+            line.concat()
+        );
+        for (number, least, count) in counts {
+            self.check(count >= least, || {
+                format!("{LOCATING} gave {number} at only {count} different columns")
+            });
         }
     }
 }

@@ -11,7 +11,7 @@ use crate::tally::{cut, difference, Tally};
 use crate::words::{NOT_GIVEN, WORD_MAX};
 use crate::{bench, device, hex, judge, sheet, streams};
 
-const TINY: Device = Device {
+pub const TINY: Device = Device {
     id: 0x2A00,
     words: 16,
     row: 8,
@@ -33,7 +33,8 @@ const CONFIGURED: &str = ":020000040001F9\n:02000E007F3F32\n:00000001FF\n";
 const LISTING: &str = "16\t0000\n00\t7FFE\n06\t0000\n06\t0000\n06\t0000\n06\t0000\n06\t0000\n\
     06\t0000\n06\t0000\n02\t7EFE\n08\t0000\n";
 
-struct Case {
+/// A request, and the answer that must come.
+pub struct Case {
     what: String,
     request: Request,
     expected: Vec<Field>,
@@ -59,61 +60,115 @@ fn number(n: u32) -> Field {
     n.into()
 }
 
-/// A HEX text read for a device: number, line, and the words it gives.
-fn hex_case(d: &Device, text: &str, answer: (u32, u32), given: &[(usize, u16)]) -> Case {
+/// Number, line and column.
+type Answer = (u32, u32, u32);
+
+/// A HEX text that is read and gives no word.
+pub fn sound_text(d: &Device, text: &[u8]) -> Case {
+    hex_case(d, text, (0, 0, 0), &[])
+}
+
+/// A HEX text that is refused.
+pub fn refused_text(d: &Device, text: &[u8], answer: Answer) -> Case {
+    hex_case(d, text, answer, &[])
+}
+
+/// A HEX text read for a device: number, line, column, and the words it gives.
+fn hex_case(d: &Device, text: &[u8], answer: Answer, given: &[(usize, u16)]) -> Case {
     // The lent image holds something that no reader writes.
     let lent: Vec<u16> = (0..d.entries()).map(|i| i as u16 ^ 0x5A5A).collect();
     let mut image = vec![NOT_GIVEN; d.entries()];
     for &(entry, word) in given {
         image[entry] = word;
     }
-    let what = format!("HEX text {:?}", cut(text.as_bytes(), 0));
-    let expected = vec![number(answer.0), number(answer.1), image.into()];
+    let what = format!("HEX text {:?}", cut(text, 0));
+    let expected = vec![
+        number(answer.0),
+        number(answer.1),
+        number(answer.2),
+        image.into(),
+    ];
     case(
         &what,
         "ihex.read_hex",
         Some(d),
-        vec![text.as_bytes().to_vec().into(), lent.into()],
+        vec![text.to_vec().into(), lent.into()],
         expected,
     )
 }
 
-fn one_word(upper: u16, offset: u16, word: u16) -> String {
+fn one_word(upper: u16, offset: u16, word: u16) -> Vec<u8> {
     let mut text = hex::record_text(0, 4, &upper.to_be_bytes());
     text.extend(hex::record_text(offset, 0, &word.to_le_bytes()));
     text.extend(END.bytes());
-    String::from_utf8(text).expect("a text")
+    text
 }
 
 fn hex_cases() -> Vec<Case> {
     let p = F1459.p();
+    let read = |d, text: &[u8], given: &[(usize, u16)]| hex_case(d, text, (0, 0, 0), given);
+    let word = one_word(0, 0x3FFE, 0x1234);
+    let id = one_word(1, 0x0006, 0x1234);
     vec![
-        hex_case(&TINY, END, (0, 0), &[]),
-        hex_case(&TINY, ":00000001FF", (0, 0), &[]),
-        hex_case(&TINY, "", (10, 0), &[]),
-        hex_case(
-            &TINY,
-            ":020000000034CA\n:00000001FF\n",
-            (0, 0),
-            &[(0, 0x3400)],
-        ),
-        hex_case(&TINY, CONFIGURED, (0, 0), &[(16 + 7, 0x3F7F)]),
-        hex_case(
-            &F1459,
-            &one_word(0, 0x3FFE, 0x1234),
-            (0, 0),
-            &[(0x1FFF, 0x1234)],
-        ),
-        hex_case(&F1459, &one_word(0, 0x4000, 0x1234), (7, 2), &[]),
-        hex_case(
-            &F1459,
-            &one_word(1, 0x0006, 0x1234),
-            (0, 0),
-            &[(p + 3, 0x1234)],
-        ),
-        hex_case(&F1459, &one_word(1, 0x0008, 0x1234), (7, 2), &[]),
-        hex_case(&F1459, &one_word(1, 0x0012, 0x1234), (7, 2), &[]),
+        read(&TINY, END.as_bytes(), &[]),
+        read(&TINY, b":00000001FF", &[]),
+        read(&TINY, b":020000000034CA\n:00000001FF\n", &[(0, 0x3400)]),
+        read(&TINY, CONFIGURED.as_bytes(), &[(16 + 7, 0x3F7F)]),
+        read(&F1459, &word, &[(0x1FFF, 0x1234)]),
+        read(&F1459, &id, &[(p + 3, 0x1234)]),
+        refused_text(&TINY, b"", (10, 0, 0)),
+        refused_text(&F1459, &one_word(0, 0x4000, 0x1234), (7, 2, 10)),
+        refused_text(&F1459, &one_word(1, 0x0008, 0x1234), (7, 2, 10)),
+        refused_text(&F1459, &one_word(1, 0x0012, 0x1234), (7, 2, 10)),
     ]
+}
+
+/// A word of TINY given by a record of its own, and given again as the third of the next.
+const THIRD_AGAIN: &str = ":020004000700F3\n:06000000010002000300F4\n:00000001FF\n";
+
+/// Which column, on TINY.
+fn column_cases() -> Vec<Case> {
+    let refused: &[(&str, Answer)] = &[
+        // 2: a line that stops short
+        (":\n", (2, 1, 2)),
+        (":00\n", (2, 1, 4)),
+        (":0\n:00000001FF\n", (2, 1, 3)),
+        (":020000003412B\n:00000001FF\n", (2, 1, 15)),
+        (":020000003412\r\n:00000001FF\n", (2, 1, 14)),
+        // 2: a character that cannot stand there
+        (":0200000000G4CA\n", (2, 1, 12)),
+        ("\n\r\n;020000003412B8\n", (2, 3, 1)),
+        (" :020000003412B8\n", (2, 1, 1)),
+        (":G20000003412B8\n", (2, 1, 2)),
+        (":0G0000003412B8\n", (2, 1, 3)),
+        (":02::\n", (2, 1, 4)),
+        (":0200\r0003412B8\n", (2, 1, 6)),
+        (":02000000\u{e9}412B8\n", (2, 1, 10)),
+        // 2: a line that is too long
+        (":00000001FF0\n", (2, 1, 12)),
+        (":020000000034CA\r\r\n:00000001FF\n", (2, 1, 16)),
+        (":020000003412B8:00000001FF\n", (2, 1, 16)),
+        (":000000003412B8G\n", (2, 1, 12)),
+        // 2: two of these, of which the left one counts
+        (":02000000G412\n", (2, 1, 10)),
+        (":00000001G\n", (2, 1, 10)),
+        (":00000001FFG\n", (2, 1, 12)),
+        (":0000G001FF00\n", (2, 1, 6)),
+        // 3 to 6, and 11: the whole line
+        (":020000000034CB\n:00000001FF\n", (3, 1, 1)),
+        (":020000021000EC\n:00000001FF\n", (4, 1, 1)),
+        (":00010001FE\n", (5, 1, 1)),
+        (":020001003412B7\n:00000001FF\n", (6, 1, 1)),
+        (":00000001FF\n\n:02000000G412B8\n", (11, 3, 1)),
+        // 7 to 9: the low byte of the word
+        (":06001C00010002000300D8\n:00000001FF\n", (7, 1, 18)),
+        (":04000000FF3F00407E\n:00000001FF\n", (8, 1, 14)),
+        (THIRD_AGAIN, (9, 2, 18)),
+        // 10
+        (":020000003412B8\n", (10, 0, 0)),
+    ];
+    let case = |&(text, answer): &(&str, Answer)| refused_text(&TINY, text.as_bytes(), answer);
+    refused.iter().map(case).collect()
 }
 
 /// A reading of one word all through, but for some.
@@ -477,6 +532,7 @@ fn bench_cases() -> Vec<Case> {
     let spare = String::from_utf8_lossy(board).replace("2A00\t3FFF\t3FFF\n", "2A00\t3EFF\t3FF3\n");
     let written = String::from_utf8_lossy(protected).to_string();
     let came_back = "3FFF\n".repeat(21) + "2000\n2A00\n3FFF\n3FFF\n";
+    let past_configuration = format!("00\t7FFE\n{}09\t0000\n", "06\t0000\n".repeat(9));
     let dump = ":10000000FF3FFF3FFF3FFF3FFF3FFF3FFF3FFF3F00\n\
         :10001000FF3FFF3FFF3FFF3FFF3FFF3FFF3FFF3FF0\n\
         :020000040001F9\n:08000000FF3FFF3FFF3FFF3F00\n:02000E00FF3FB2\n:02001000FF3FB0\n:00000001FF\n";
@@ -490,56 +546,68 @@ fn bench_cases() -> Vec<Case> {
         bench_case(
             "the listing by a file with a spare bit of 0",
             "bench.update",
-            &[TINY_LINE, board, one_word(1, 0x000E, 0x3E7F).as_bytes()],
+            &[TINY_LINE, board, &one_word(1, 0x000E, 0x3E7F)],
             LISTING,
         ),
         bench_case(
             "a spare bit alone",
             "bench.update",
-            &[TINY_LINE, board, one_word(1, 0x000E, 0x3EFF).as_bytes()],
+            &[TINY_LINE, board, &one_word(1, 0x000E, 0x3EFF)],
             "16\t0000\n",
         ),
         bench_case(
             "no table",
             "bench.update",
             &[b"", board, hex],
-            "refused\t15\t0\n",
+            "refused\t15\t0\t0\n",
         ),
         bench_case(
             "no sheet",
             "bench.update",
             &[TINY_LINE, b"", hex],
-            "refused\t14\t0\n",
+            "refused\t14\t0\t0\n",
         ),
         bench_case(
             "no file",
             "bench.update",
             &[TINY_LINE, board, b""],
-            "refused\t10\t0\n",
+            "refused\t10\t0\t0\n",
         ),
         bench_case(
             "a wrong sum",
             "bench.update",
             &[TINY_LINE, board, wrong_sum],
-            "refused\t3\t1\n",
+            "refused\t3\t1\t1\n",
+        ),
+        bench_case(
+            "a word given twice",
+            "bench.update",
+            &[TINY_LINE, board, THIRD_AGAIN.as_bytes()],
+            "refused\t9\t2\t18\n",
+        ),
+        bench_case(
+            "a line that stops short",
+            "bench.fresh",
+            &[TINY_LINE, board, b":00000001F\n"],
+            "refused\t2\t1\t11\n",
         ),
         bench_case(
             "an update of a protected board",
             "bench.update",
             &[TINY_LINE, protected, hex],
-            "refused\t23\t0\n",
+            "refused\t23\t0\t0\n",
         ),
         bench_case(
             "an unknown ID",
             "bench.checksum",
             &[TINY_LINE, b"3023\n"],
-            "refused\t16\t0\n",
+            "refused\t16\t0\t0\n",
         ),
         bench_case(
             "line 1 alone",
             "bench.checksum",
             &[TINY_LINE, b"2A00\n"],
-            "refused\t14\t0\n",
+            "refused\t14\t0\t0\n",
         ),
         bench_case(
             "blank TINY's sum",
@@ -587,20 +655,32 @@ fn bench_cases() -> Vec<Case> {
             "an unknown code",
             "bench.trial",
             &[TINY_LINE, board, b"16\t0000\n18\t0000\n"],
-            "refused\t30\t2\n",
+            "refused\t30\t2\t1\n",
+        ),
+        bench_case(
+            "a payload on Begin",
+            "bench.trial",
+            &[TINY_LINE, board, b"08\t0002\n"],
+            "refused\t31\t1\t1\n",
+        ),
+        bench_case(
+            "Bulk Erase at 8009h",
+            "bench.trial",
+            &[TINY_LINE, board, past_configuration.as_bytes()],
+            "refused\t33\t11\t1\n",
         ),
         bench_case(
             "small digits",
             "bench.trial",
             &[TINY_LINE, board, b"16\t0000\n02\t7efe\n"],
-            "refused\t34\t2\n",
+            "refused\t34\t2\t1\n",
         ),
         bench_case("a whole copy", "bench.dump", &[TINY_LINE, board], dump),
         bench_case(
             "a copy of a protected board",
             "bench.dump",
             &[TINY_LINE, protected],
-            "refused\t23\t0\n",
+            "refused\t23\t0\t0\n",
         ),
         bench_case(
             "the words that came back",
@@ -612,13 +692,14 @@ fn bench_cases() -> Vec<Case> {
             "a word lost",
             "bench.gather",
             &[TINY_LINE, b"2A00\n", &came_back.as_bytes()[5..]],
-            "refused\t21\t0\n",
+            "refused\t21\t0\t0\n",
         ),
     ]
 }
 
 fn cases() -> Vec<Case> {
     let mut all = hex_cases();
+    all.extend(column_cases());
     all.extend(checksum_cases());
     all.extend([row_case(0), row_case(1), latch_case()]);
     all.extend(spare_cases());
@@ -652,17 +733,21 @@ fn cases() -> Vec<Case> {
     all
 }
 
-/// The worked cases: our own answers against what stands in the paper, then the command's.
+/// The worked cases.
 pub fn check(peer: &Peer, tally: &mut Tally) {
-    let cases = cases();
+    hold_all(&cases(), "worked", peer, tally);
+}
+
+/// Cases: our own answers against what must come, then the command's.
+pub fn hold_all(cases: &[Case], kind: &str, peer: &Peer, tally: &mut Tally) {
     let mut hold = |c: &Case, who: &str, answer: Option<&[u8]>| {
         let expected = line(c.request.call().name, &c.expected);
         tally.check(answer == Some(expected.as_slice()), || {
             let parts = difference(&c.request, &expected, answer);
-            format!("worked, {who}: {}: {parts}", c.what)
+            format!("{kind}, {who}: {}: {parts}", c.what)
         });
     };
-    for c in &cases {
+    for c in cases {
         let own = line(c.request.call().name, &c.request.own().fields);
         hold(c, "our own", Some(&own));
     }

@@ -33,6 +33,16 @@ pub fn device_of_size(rows: usize, rng: &mut Rng) -> Device {
     }
 }
 
+/// A lawful device whose program space holds the longest record, and is not much larger.
+pub fn roomy_device(rng: &mut Rng) -> Device {
+    let d = device_of_size(1, rng);
+    let rows = rng.between(128, 256) / usize::from(d.row);
+    Device {
+        words: d.row * rows as u16,
+        ..d
+    }
+}
+
 /// A lawful device, mostly a small one, now and then the largest.
 pub fn any_device(rng: &mut Rng) -> Device {
     match rng.below(200) {

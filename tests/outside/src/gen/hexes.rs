@@ -1,6 +1,6 @@
 //! Inputs for the HEX reader and writer.
 
-use super::boards::{also, any_device, image_for, reading_for, record, spoil_image};
+use super::boards::{also, any_device, image_for, reading_for, record, roomy_device, spoil_image};
 use super::{lent, lent_words, room};
 use crate::device::Device;
 use crate::field::Field;
@@ -78,38 +78,91 @@ fn image_lines(d: &Device, image: &[u16], rng: &mut Rng) -> Vec<Line> {
     lines
 }
 
-/// A line that is not a record.
-fn no_record(rng: &mut Rng) -> Line {
-    let length = 2 * rng.below(5);
-    let data = rng.bytes(length);
-    let (address, kind) = (rng.u16(), rng.pick(&[0, 0, 1, 4, 2]));
-    let mut line = record_line(address, kind, &data, rng);
-    match rng.below(12) {
+/// Characters that are no digits: beside them, blanks, beyond ASCII, and a CR, which is one where it is not the line's last.
+const NO_DIGITS: &[u8] = b"/:@G`g \t\x00\r\x7F\x80\xFF";
+/// The most data words of a record.
+const MOST_WORDS: usize = 127;
+
+/// A character that is no digit.
+fn no_digit(rng: &mut Rng) -> u8 {
+    let any = rng.byte();
+    if rng.chance(30) && any != b'\n' && !any.is_ascii_hexdigit() {
+        any
+    } else {
+        rng.pick(NO_DIGITS)
+    }
+}
+
+fn digits(count: usize, rng: &mut Rng) -> Line {
+    (0..count)
+        .map(|_| rng.pick(b"0123456789ABCDEFabcdef"))
+        .collect()
+}
+
+/// Data bytes of a record: often few, often any count, now and then as many as there can be.
+fn data_length(rng: &mut Rng) -> usize {
+    match rng.below(10) {
+        0..=2 => 2 * rng.below(5),
+        3 | 4 => 255 - rng.below(2),
+        _ => rng.below(256),
+    }
+}
+
+/// Damages a line so that it should be no record; what it was before has no say.
+fn spoil_record(line: &mut Line, rng: &mut Rng) {
+    let end = line.len();
+    match rng.below(20) {
         0 => {
             line.remove(0);
         }
         1 => line[0] = rng.pick(b";.0 :\t"),
         2 => line.insert(0, rng.pick(b" 0:\t")),
-        3..=5 => {
-            let at = rng.between(1, line.len() - 1);
-            line[at] = rng.pick(b"/:@G`g \t\x00\xFF\r");
+        3..=6 => line[rng.below(end)] = no_digit(rng),
+        7 => line[rng.between(1, 2).min(end - 1)] = no_digit(rng),
+        8 => line.insert(rng.below(end + 1), no_digit(rng)),
+        9 => line.insert(rng.below(end + 1), rng.pick(b"0F")),
+        10 => line.push(rng.pick(b"0F \r")),
+        11 => {
+            let count = rng.between(1, 300);
+            line.extend(digits(count, rng));
         }
-        6 => line.push(rng.pick(b"0F \r")),
-        7 => line.extend(b"00"),
-        8 => {
-            line.pop();
+        12 => line.extend(rng.pick(&[b"00".as_slice(), b"\r\r", b"\r0", b":0"])),
+        13 => line.truncate(end - 1),
+        14 => line.truncate(end.saturating_sub(2)),
+        15 | 16 => line.truncate(rng.between(1, end)),
+        17 => line.truncate(rng.between(1, 10)),
+        18 if end > 2 => {
+            let other = digits(2, rng);
+            line.splice(1..3, other);
         }
-        9 => line.truncate(line.len() - 2),
-        10 => line.truncate(rng.between(1, 10)),
-        _ => {
+        _ if end > 2 => {
             let length = [b"00".as_slice(), b"01", b"FF", b"10", b"7F"];
             line.splice(1..3, rng.pick(&length).iter().copied());
         }
+        _ => line.push(b' '),
     }
-    if line == b":" || own_kind(&line) != Some(2) {
-        b":".to_vec()
+}
+
+/// A line that is not a record: a colon and any number of digits, or a record that is damaged in a place or several.
+fn no_record(rng: &mut Rng) -> Line {
+    let mut line = if rng.chance(15) {
+        let count = rng.below(540);
+        [b":".to_vec(), digits(count, rng)].concat()
     } else {
+        let length = data_length(rng);
+        let data = rng.bytes(length);
+        let (address, kind) = (rng.u16(), rng.pick(&[0, 0, 1, 4, 2]));
+        record_line(address, kind, &data, rng)
+    };
+    for _ in 0..rng.pick(&[1, 1, 2, 3]) {
+        if !line.is_empty() {
+            spoil_record(&mut line, rng);
+        }
+    }
+    if own_kind(&line) == Some(2) {
         line
+    } else {
+        b":".to_vec()
     }
 }
 
@@ -124,37 +177,61 @@ fn own_kind(line: &[u8]) -> Option<u32> {
     };
     own::image(&d, line, own::TEXT_MAX)
         .err()
-        .map(|(number, _)| number)
+        .map(|refusal| refusal.number)
 }
 
 /// A word address that no file may give, and how many lawful words stand just before it.
 fn nowhere(d: &Device, rng: &mut Rng) -> (u32, u32) {
     let p = u32::from(d.words);
-    match rng.below(10) {
-        0 => (p, p.min(3)),
-        1 => (0x8004, 4),
-        2 => (0x8009, 2),
-        3 => (0x8005, 0),
-        4 => (0x8006, 0),
-        5 => (0x800A + rng.below(4) as u32, 0),
+    match rng.below(16) {
+        0..=6 => (p, p.min(MOST_WORDS as u32 - 1)),
+        7 => (0x8004, 4),
+        8 => (0x8009, 2),
+        9 => (0x8005, 0),
+        10 => (0x8006, 0),
+        11 => (0x800A + rng.below(4) as u32, 0),
         // The same addresses again 64 Ki words on, as one would see that keeps 16 bits of them.
-        6 => (
+        12 => (
             0x1_0000 * rng.between(1, 0x7FFF) as u32 + rng.below(d.p()) as u32,
             0,
         ),
-        7 => (0x1_8000 + rng.pick(&[0, 3, 7, 8]), 0),
-        8 => (0x7FFF_FFFF - rng.below(8) as u32, 0),
+        13 => (0x1_8000 + rng.pick(&[0, 3, 7, 8]), 0),
+        14 => (0x7FFF_FFFF - rng.below(8) as u32, 0),
         _ => (rng.between(d.p(), 0x7FFF) as u32, 0),
     }
 }
 
-/// A word address that a file may give.
-fn somewhere(d: &Device, rng: &mut Rng) -> u32 {
-    if rng.chance(30) {
-        0x8000 + rng.pick(&[0, 1, 2, 3, 7, 8])
-    } else {
-        rng.below(d.p()) as u32
+/// Words one after another that a file may give: the address of the first, and how many. A record of that many has any of
+/// them in any place.
+fn neighbours(d: &Device, rng: &mut Rng) -> (u32, usize) {
+    if rng.chance(20) {
+        return rng.pick(&[
+            (0x8000, 4),
+            (0x8001, 3),
+            (0x8003, 1),
+            (0x8007, 2),
+            (0x8008, 1),
+        ]);
     }
+    let most = d.p().min(MOST_WORDS);
+    let count = rng.pick(&[1, 2, 3, most, most, most, most, most]).min(most);
+    (rng.between(0, d.p() - count) as u32, count)
+}
+
+/// A place in a list of that length: the first, the last, or any.
+fn place_in(count: usize, rng: &mut Rng) -> usize {
+    match rng.below(6) {
+        0 => 0,
+        1 => count - 1,
+        _ => rng.below(count),
+    }
+}
+
+/// Words of which all before a place are sound; what stands after it is not looked at.
+fn sound_up_to(place: usize, count: usize, rng: &mut Rng) -> Vec<u16> {
+    (0..count)
+        .map(|k| if k <= place { rng.word() } else { rng.u16() })
+        .collect()
 }
 
 /// Lines of which the last should be refused with the number; some of the later refusals are in it as well.
@@ -207,32 +284,29 @@ fn bad_lines(d: &Device, number: u32, rng: &mut Rng) -> Vec<Line> {
         }
         7 => {
             let (bad, before) = nowhere(d, rng);
-            let back = rng.below(before as usize + 1) as u32;
-            let after = rng.between(1, 3) as u32;
-            // From the bad word on any value will do: it is not looked at.
-            let words: Vec<u16> = (0..back + after)
-                .map(|k| if k < back { rng.word() } else { rng.u16() })
-                .collect();
-            placed(bad - back, &words, &mut no_upper, rng)
+            let back = rng.below(before as usize + 1);
+            let after = rng.pick(&[1, 2, 3, MOST_WORDS]).min(MOST_WORDS - back);
+            let mut words = sound_up_to(back, back + after, rng);
+            // Nor is the word itself looked at, which has no place.
+            words[back] = rng.u16();
+            placed(bad - back as u32, &words, &mut no_upper, rng)
         }
         8 => {
-            let at = somewhere(d, rng);
-            let above = rng.pick(&[0x4000, 0x4001, 0x8000, 0xFFFE, 0xFFFF]);
-            let mut words = vec![above];
-            for _ in 0..rng.below(3) {
-                words.push(rng.u16());
-            }
-            if rng.chance(50) && at > 0 && (at < 0x8000 || at == 0x8001 || at == 0x8008) {
-                words.insert(0, rng.word());
-                return placed(at - 1, &words, &mut no_upper, rng);
-            }
-            placed(at, &words, &mut no_upper, rng)
+            let (first, count) = neighbours(d, rng);
+            let place = place_in(count, rng);
+            let mut words = sound_up_to(place, count, rng);
+            words[place] = rng.pick(&[0x4000, 0x4001, 0x8000, 0xFFFE, 0xFFFF]);
+            placed(first, &words, &mut no_upper, rng)
         }
         _ => {
-            // 9: the same word twice, of whatever values.
-            let at = somewhere(d, rng);
-            let mut lines = placed(at, &[rng.word()], &mut no_upper, rng);
-            let second = placed(at, &[rng.word(), rng.u16()], &mut no_upper, rng);
+            // 9: the same word twice, of whatever values; the second time in any place of a record.
+            let (first, count) = neighbours(d, rng);
+            let place = place_in(count, rng);
+            let again = rng.between(1, count - place);
+            let given: Vec<u16> = (0..again).map(|_| rng.word()).collect();
+            let mut lines = placed(first + place as u32, &given, &mut no_upper, rng);
+            let words = sound_up_to(place, count, rng);
+            let second = placed(first, &words, &mut no_upper, rng);
             if rng.chance(50) {
                 lines.push(Vec::new());
             }
@@ -281,7 +355,9 @@ pub fn text(d: &Device, image: &[u16], aim: u32, most: usize, rng: &mut Rng) -> 
         _ => aim,
     };
     if (2..=9).contains(&fault) {
-        let at = rng.below(lines.len() + 1);
+        // A refused word often comes first, where no other word of its record has been given yet.
+        let first = (7..=9).contains(&fault) && rng.chance(60);
+        let at = if first { 0 } else { rng.below(lines.len() + 1) };
         let bad = bad_lines(d, fault, rng);
         lines.splice(at..at, bad);
         if rng.chance(30) {
@@ -333,7 +409,10 @@ pub fn ihex(name: &str, aim: u32, rng: &mut Rng) -> Vec<Field> {
     if name == "next_line" || name == "line_from" {
         return super::texts::next_line(aim == 1, rng);
     }
-    let d = any_device(rng);
+    let d = match aim {
+        7..=9 if rng.chance(60) => roomy_device(rng),
+        _ => any_device(rng),
+    };
     let reading = reading_for(&d, rng.chance(30), rng);
     let mut image = image_for(&d, &reading, rng);
     let mut fields = record(&d, aim, rng);

@@ -269,9 +269,9 @@ fn count(bits: u32, rng: &mut Rng) -> u64 {
 pub fn print(name: &str, short: bool, rng: &mut Rng) -> Vec<Field> {
     let (mut fields, text): (Vec<Field>, Vec<u8>) = match name {
         "refusal" => {
-            let (number, line) = (count(8, rng), count(32, rng));
-            let text = own::refusal(number as u32, line);
-            (vec![number.into(), line.into()], text)
+            let (number, line, column) = (count(8, rng), count(32, rng), count(32, rng));
+            let text = own::refusal(number as u32, line, column);
+            (vec![number.into(), line.into(), column.into()], text)
         }
         "sum" => {
             let word = number(16, rng);

@@ -1,6 +1,6 @@
 -- A word's address has an entry, no address none.
 use mathlib.Core.Path.{sym, ap, _∙_}
-use Rattle.hexread.specs.Reader.{entryAt}
+use Rattle.hexread.specs.Step.{entryAt}
 use borrow.Author.Needs.{needs}
 use Rattle.hexread.proofs.give.entry_at.Statement.{statement}
 use Rattle.hexread.proofs.give.entry_at.Tie as tie

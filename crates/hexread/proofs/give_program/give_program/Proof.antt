@@ -1,4 +1,5 @@
 -- What is left of the record's words gives the rest.
+use borrow.Author.Needs.{needs}
 use Rattle.hexread.specs.LawsGiveProgram.{GivingProgram, program-none, program-all, program-8, program-9, program-on}
 use Prim.Native.Nat.{_-_}
 use native.Mathlib.Omega.{arith}
@@ -17,6 +18,9 @@ loop-holds c = program-none _ _ _ _ (c .before .before .pre .1) (c .before .befo
 word-at-requires : tie.Need-word-at-requires Inv-loop μ-loop
 word-at-requires c κs = (c .before .before .before .before .pre .0, omega (arith, c .before .loop .inv .few))
 
+cast-t8 : tie.Need-cast-t8 Inv-loop μ-loop
+cast-t8 c = search needs
+
 same-length : tie.Need-same-length Inv-loop μ-loop
 same-length c = c .before .before .before .loop .inv .kept
 
@@ -31,6 +35,9 @@ mul-if2 c = omega (arith, c .before .before .before .loop .inv .room)
 
 slice-read-if2 : tie.Need-slice-read-if2 Inv-loop μ-loop
 slice-read-if2 c = omega (arith, c .before .before .before .before .loop .inv .room)
+
+cast-t13 : tie.Need-cast-t13 Inv-loop μ-loop
+cast-t13 c = search needs
 
 same-length-2 : tie.Need-same-length-2 Inv-loop μ-loop
 same-length-2 c = c .before .before .before .before .before .loop .inv .kept
@@ -58,6 +65,9 @@ loop-again : tie.Need-loop-again Inv-loop μ-loop
 loop-again c = program-on _ _ _ _ _ _ (c .before .before .before .before .before .loop .inv) (c .before .before .before .before .loop-test .taken) _
     (c .before .before .before .word-at .ensures) (c .before .before .if1 .left) (c .if2 .left)
 
+cast-t15 : tie.Need-cast-t15 Inv-loop μ-loop
+cast-t15 c = search needs
+
 same-length-3 : tie.Need-same-length-3 Inv-loop μ-loop
 same-length-3 c = c .before .loop .inv .kept
 
@@ -72,11 +82,13 @@ give-program-spec =
     μ-loop
     loop-holds
     word-at-requires
+    cast-t8
     same-length
     returns
     add-if2
     mul-if2
     slice-read-if2
+    cast-t13
     same-length-2
     returns-2
     add-image
@@ -85,5 +97,6 @@ give-program-spec =
     add-j
     loop-less
     loop-again
+    cast-t15
     same-length-3
     returns-3)

@@ -1,24 +1,26 @@
 -- One way through for each kind of line.
-use Rattle.hexread.specs.LawsReader.{step-empty, step-after, step-bad, step-record}
+use Rattle.hexread.specs.LawsTaken.{line-skipped, line-after, line-bad, line-record}
 use borrow.Author.Needs.{needs}
 use Rattle.hexread.proofs.step.take_line.Statement.{statement}
 use Rattle.hexread.proofs.step.take_line.Tie as tie
 
 returns : tie.Need-returns
-returns c = step-empty _ _ _ _ _ (c .if1 .taken)
+returns c = line-skipped _ _ _ _ _ (c .if1 .taken)
 
 returns-2 : tie.Need-returns-2
-returns-2 c = step-after _ _ _ _ _ (c .before .if1 .left) (c .if2 .taken)
+returns-2 c = line-after _ _ _ _ _ (c .before .if1 .left) (c .if2 .taken)
 
 judge-line-requires : tie.Need-judge-line-requires
 judge-line-requires c κs = search needs
+
+line-column-requires : tie.Need-line-column-requires
+line-column-requires c κs = search needs
 
 same-length : tie.Need-same-length
 same-length c = search needs
 
 returns-3 : tie.Need-returns-3
-returns-3 c = step-bad _ _ _ _ _ (c .before .before .before .before .before .before .if1 .left) (c .before .before .before .before .before .if2 .left) _
-    (c .before .before .before .judge-line .ensures .number) (c .if3 .taken)
+returns-3 c = line-bad _ _ _ _ _ (c .before .before .before .before .before .before .before .if1 .left) (c .before .before .before .before .before .before .if2 .left) _ (c .before .before .before .before .judge-line .ensures .number) (c .before .if3 .taken) _ (c .line-column .ensures)
 
 take-record-requires : tie.Need-take-record-requires
 take-record-requires c κs = search needs
@@ -30,9 +32,7 @@ same-length-3 : tie.Need-same-length-3
 same-length-3 c = search needs
 
 returns-4 : tie.Need-returns-4
-returns-4 c = step-record _ _ _ _ _ (c .before .before .before .before .before .before .before .before .before .before .before .if1 .left)
-    (c .before .before .before .before .before .before .before .before .before .before .if2 .left) _
-    (c .before .before .before .before .before .before .before .before .judge-line .ensures .number) (c .before .before .before .before .before .if3 .left) _
+returns-4 c = line-record _ _ _ _ _ (c .before .before .before .before .before .before .before .before .before .before .before .if1 .left) (c .before .before .before .before .before .before .before .before .before .before .if2 .left) _ (c .before .before .before .before .before .before .before .before .judge-line .ensures .number) (c .before .before .before .before .before .if3 .left) _ _
     (c .before .before .take-record .ensures _ (c .before .before .before .before .before .before .before .before .judge-line .ensures .sound (c .before .before .before .before .before .if3 .left)))
 
 pub take-line-spec : {M : Type 1} → statement M
@@ -42,6 +42,7 @@ take-line-spec =
     returns
     returns-2
     judge-line-requires
+    line-column-requires
     same-length
     returns-3
     take-record-requires
