@@ -4,6 +4,7 @@ use ask::fields::NOWHERE;
 use ask::name;
 use ask::name::UNKNOWN;
 use ask::put;
+use hexread::ReadHex;
 use lines::NextLine;
 
 // The end of the answer to a request on HEX text.
@@ -38,14 +39,14 @@ fn read_hex(line: &[u8], at: usize, a: &mut [u8], w: &mut [u16], out: &mut [u8])
     let m = image.count;
     let part = &mut w[..m];
     let read = hexread::read_hex(d.device, &a[..n], part);
-    let next = put::three(
-        out,
-        at,
-        read.number as u64,
-        read.line as u64,
-        read.column as u64,
-    );
-    put::words(out, next, part)
+    put_read(out, at, read, part)
+}
+
+// What a reading came to, and the image that it left.
+fn put_read(out: &mut [u8], at: usize, read: ReadHex, image: &[u16]) -> usize {
+    let number = read.number as u64;
+    let next = put::three(out, at, number, read.line as u64, read.column as u64);
+    put::words(out, next, image)
 }
 
 fn write_hex(line: &[u8], at: usize, a: &mut [u8], w: &mut [u16], out: &mut [u8]) -> usize {

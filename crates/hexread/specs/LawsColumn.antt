@@ -1,5 +1,5 @@
 -- What a column tells: of one line, where a reading stands at r, and of a text.
-use Prim.Native.Nat.{ℕ, zero, suc, _+_, _-_, _*_, _/_, _%_, _≤_, _<_}
+use Prim.Native.Nat.{ℕ, suc, _+_, _-_, _*_, _/_, _%_, _≤_, _<_}
 use native.Mathlib.Decide.{ℕ-discrete}
 use native.Mathlib.Omega.{arith}
 use mathlib.Core.Path.{_≡_, refl, sym, ap, _∙_}
@@ -10,7 +10,7 @@ use lib.Dec.{leb, eqb}
 use lib.ListN.{length, getD, take}
 use borrow.Author.Tests.{eq-eqb, ne-eqb}
 use Rattle.words.specs.Choice.{pick}
-use Rattle.words.specs.LawsChoice.{pick-true, pick-false, decided, both}
+use Rattle.words.specs.LawsChoice.{decided, both}
 use Rattle.device.specs.declared.Device.{Device}
 use Rattle.device.specs.Record.{deviceOk}
 use Rattle.device.specs.Memory.{readingTail}

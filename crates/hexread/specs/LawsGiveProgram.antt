@@ -15,7 +15,7 @@ use Rattle.words.specs.LawsAddress.{placed-at, placed-nowhere, halved-doubled, 
 use Rattle.device.specs.Memory.{readingTail, programmable}
 use Rattle.device.specs.LawsMemory.{programmable-low}
 use Rattle.hexread.specs.Line.{countOf, offsetOf}
-use Rattle.hexread.specs.Step.{wordOf, byteAddress, entryAt, entryOfWord, giveWords}
+use Rattle.hexread.specs.Step.{wordOf, byteAddress, entryAt, entryOfWord}
 use Rattle.hexread.specs.LawsDecode.{OffsetOf, Sound, sound-count, sound-offset, sound-word}
 use Rattle.hexread.specs.LawsGive.{gave, Gives, entry-read, give-none, turn-8, turn-9, turn-on}
 

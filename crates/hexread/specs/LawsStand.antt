@@ -1,9 +1,8 @@
 -- Laws of the characters of a line: one that can stand, the first that cannot, and what they tell of a record.
-use Prim.Native.Nat.{ℕ, zero, suc, _+_, _-_, _*_, _/_, _%_, _≤_, _<_}
+use Prim.Native.Nat.{ℕ, _+_, _-_, _*_, _/_, _%_, _≤_, _<_}
 use native.Mathlib.Decide.{decLt, ℕ-discrete}
 use native.Mathlib.Omega.{arith}
 use mathlib.Core.Path.{_≡_, refl, sym, ap, _∙_}
-use mathlib.Core.Logic.{_⊎_, inl, inr}
 use mathlib.Core.Bool.{Bool, true, false, _&&_, not}
 use mathlib.Core.List.{List}
 use lib.Dec.{ltb, eqb}
@@ -12,10 +11,10 @@ use borrow.Author.Tests.{lt-ltb, le-ltb, ltb-true, eq-eqb, ne-eqb, eqb-true}
 use Rattle.words.specs.Choice.{pick}
 use Rattle.words.specs.First.{firstTo}
 use Rattle.words.specs.Lists.{every}
-use Rattle.words.specs.LawsChoice.{decided, true-not-false, both, first-holds, second-holds}
-use Rattle.words.specs.LawsFirst.{First, first, first-is}
+use Rattle.words.specs.LawsChoice.{true-not-false, both, first-holds, second-holds}
+use Rattle.words.specs.LawsFirst.{first, first-is}
 use Rattle.words.specs.LawsLists.{every-at, every-all}
-use Rattle.words.specs.LawsTests.{by-test, by-lt, by-eq, not-holds, not-fails}
+use Rattle.words.specs.LawsTests.{not-holds, not-fails}
 use Rattle.numerals.specs.Hex.{digitOf, byteBy, joined}
 use Rattle.numerals.specs.LawsHex.{joined-both, joined-no-high, joined-no-low}
 use Rattle.hexread.specs.Line.{byteAt, countOf, isRecord}

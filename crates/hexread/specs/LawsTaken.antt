@@ -16,7 +16,7 @@ use Rattle.hexread.specs.Line.{countOf, isRecord, sumOk, typeOk, shapeOk
 use Rattle.hexread.specs.Step.{wordOf, entryOfWord, wordNumber, Reading, giveWords, recordStep, lineStep}
 use Rattle.hexread.specs.Column.{badColumn, refusedWord, wordColumn, columnOf, lineColumn}
 use Rattle.hexread.specs.LawsLine.{ByteRead}
-use Rattle.hexread.specs.LawsGive.{reading, Gave, gave, stopped}
+use Rattle.hexread.specs.LawsGive.{reading, gave, stopped}
 use Rattle.hexread.specs.LawsReader.{step-empty, step-after, step-bad, step-record, record-data}
 
 -- ---- the column of a number

@@ -1,5 +1,4 @@
 -- A law for each part of a line.
-use mathlib.Core.Path.{refl}
 use Rattle.hexread.specs.LawsStand.{stand-first, stand-near, stand-beyond, stand-far}
 use borrow.Author.Needs.{needs}
 use Rattle.hexread.proofs.column.can_stand.Statement.{statement}
