@@ -24,7 +24,7 @@
 #ifndef TICKMALLET_H
 #define TICKMALLET_H
 
-#define TICKMALLET_VERSION "0.1.0"
+#define TICKMALLET_VERSION "0.2.0"
 
 #include <stddef.h>
 #include <stdint.h>
