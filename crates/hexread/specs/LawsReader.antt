@@ -1,5 +1,5 @@
 -- Laws of reading HEX text: one line, the lines one after another, and the call.
-use Prim.Native.Nat.{ℕ, _+_, _-_, _*_, _/_, _≤_, _<_}
+use Prim.Native.Nat.{ℕ, zero, suc, _+_, _-_, _*_, _/_, _≤_, _<_}
 use native.Mathlib.Decide.{ℕ-discrete}
 use native.Mathlib.Omega.{arith}
 use mathlib.Core.Path.{_≡_, refl, sym, ap, _∙_}
@@ -21,7 +21,7 @@ use Rattle.lines.specs.Lines.{linesOf, lineAt, endOf}
 use Rattle.lines.specs.LawsLine.{lines-of-nothing, lines-left, end-most, end-least}
 use Rattle.hexread.specs.Line.{countOf, typeOf, lineNumber}
 use Rattle.hexread.specs.Step.{Reading, giveWords, recordStep, lineRefused, lineStep}
-use Rattle.hexread.specs.Column.{lineColumn}
+use Rattle.hexread.specs.Column.{columnOf, lineColumn}
 use Rattle.hexread.specs.Reader.{mostText, blankImage, Outcome, refusedAt, readLines, begun, textRead, readAnswer, HexRead}
 use Rattle.hexread.specs.LawsLine.{ByteRead}
 use Rattle.hexread.specs.LawsGive.{reading}
@@ -164,19 +164,39 @@ left-none text from words k now h z =
 
 -- ---- the loop over the lines
 
+-- where the line after k lines begins
+unfoldable pub startOf : (text : List ℕ) → (k : ℕ) → ℕ
+startOf text zero = 0
+startOf text (suc k) = endOf text (startOf text k) + 1
+
 abbrev pub outcome : (words : ℕ) → (text image : List ℕ) → Outcome
 outcome words text image = readLines words (linesOf text) 1 (reading false 0 image 0)
+
+-- a line that is told has a number
+pub line-some : (line : ℕ) → (line ≡ 0 → ⊥) → 1 ≤ line
+line-some line n = omega (arith, n)
 
 -- the lines up to `at` are read, and the next one has this number
 pub record Ahead (words : ℕ) (text image₀ : List ℕ) (at line : ℕ) (ended : Bool) (upper : ℕ) (image : List ℕ) : Type 0 where
   pub short : length text ≤ mostText
   pub within : at ≤ length text + 1
   pub count : line ≤ at + 1
+  pub least : 1 ≤ line
+  pub start : at ≡ startOf text (line - 1)
   pub long : length image ≡ words + readingTail
   pub kept : length image ≡ length image₀
   pub rest : readLines words (linesOf (drop at text)) line (reading ended upper image 0) ≡ outcome words text image₀
 
--- what the loop answers; the image of a refused text is of no use
+-- where the loop stops; the image of a refused text is of no use
+pub record LinesStopped (words : ℕ) (text image₀ : List ℕ) (number line word : ℕ) (image : List ℕ) : Type 0 where
+  pub number-is : number ≡ outcome words text image₀ .number
+  pub line-is : line ≡ outcome words text image₀ .line
+  pub no-column : line ≡ 0 → 0 ≡ outcome words text image₀ .column
+  pub within : (line ≡ 0 → ⊥) → startOf text (line - 1) < length text
+  pub column-is : (line ≡ 0 → ⊥) → columnOf number (lineAt text (startOf text (line - 1))) word ≡ outcome words text image₀ .column
+  pub image-is : number ≡ 0 → image ≡ outcome words text image₀ .image
+
+-- what that comes to
 pub record LinesRead (words : ℕ) (text image₀ : List ℕ) (r : ReadHex) (image : List ℕ) : Type 0 where
   pub number-is : r .number ≡ outcome words text image₀ .number
   pub line-is : r .line ≡ outcome words text image₀ .line
@@ -185,13 +205,19 @@ pub record LinesRead (words : ℕ) (text image₀ : List ℕ) (r : ReadHex) (ima
 
 module _ (words : ℕ) (text image₀ : List ℕ) where
   pub ahead-all : length text ≤ mostText → length image₀ ≡ words + readingTail → Ahead words text image₀ 0 1 false 0 image₀
-  ahead-all s l = record { short = s; within = omega arith; count = omega arith; long = l; kept = refl; rest = refl }
+  ahead-all s l = record { short = s; within = omega arith; count = omega arith; least = omega arith; start = unfold startOf in refl; long = l; kept = refl; rest = refl }
 
   module _ (at line : ℕ) (ended : Bool) (upper : ℕ) (image : List ℕ) (a : Ahead words text image₀ at line ended upper image) where
     module _ (left : at < length text) (ended′ : Bool) (upper′ : ℕ) (image′ : List ℕ) (number : ℕ)
         (step : reading ended′ upper′ image′ number ≡ lineStep words (lineAt text at) (reading ended upper image 0)) where
       here : at ≤ length text
       here = omega arith
+
+      next-start : endOf text at + 1 ≡ startOf text (line + 1 - 1)
+      unfolding startOf
+      next-start =
+          let e : line + 1 - 1 ≡ suc (line - 1) = omega (arith, a .least) in
+          rw e (ap (λ k. endOf text k + 1) (a .start))
 
       pub ahead-on : length image′ ≡ length image → number ≡ 0 → Ahead words text image₀ (endOf text at + 1) (line + 1) ended′ upper′ image′
       ahead-on l z =
@@ -203,21 +229,24 @@ module _ (words : ℕ) (text image₀ : List ℕ) where
             short = a .short;
             within = omega arith;
             count = omega arith;
+            least = omega arith;
+            start = next-start;
             long = l ∙ a .long;
             kept = l ∙ a .kept;
             rest = sym (left-on text at here words line (reading ended upper image 0) (reading ended′ upper′ image′ 0) (same ∙ step) refl) ∙ a .rest;
           }
 
-      pub lines-refused : (number ≡ 0 → ⊥) → (column : ℕ) → column ≡ lineColumn words (lineAt text at) (reading ended upper image 0)
-          → LinesRead words text image₀ (record { number = number; line = line; column = column }) image′
-      lines-refused n column c =
-          let out : refusedAt words number line column ≡ outcome words text image₀ =
-          ap (refusedAt words number line) c
-          ∙ (sym (left-stop text at here words line (reading ended upper image 0) (reading ended′ upper′ image′ number) step n) ∙ a .rest) in
+      pub lines-refused : (number ≡ 0 → ⊥) → (word : ℕ) → columnOf number (lineAt text at) word ≡ lineColumn words (lineAt text at) (reading ended upper image 0)
+          → LinesStopped words text image₀ number line word image′
+      lines-refused n word c =
+          let out : refusedAt words number line (lineColumn words (lineAt text at) (reading ended upper image 0)) ≡ outcome words text image₀ =
+          sym (left-stop text at here words line (reading ended upper image 0) (reading ended′ upper′ image′ number) step n) ∙ a .rest in
           record {
-            number-is = sym (refused-number words number line column) ∙ ap (λ o. o .number) out;
-            line-is = sym (refused-line words number line column) ∙ ap (λ o. o .line) out;
-            column-is = sym (refused-column words number line column) ∙ ap (λ o. o .column) out;
+            number-is = sym (refused-number words number line _) ∙ ap (λ o. o .number) out;
+            line-is = sym (refused-line words number line _) ∙ ap (λ o. o .line) out;
+            no-column = λ z. absurd (omega (arith, a .least));
+            within = λ m. rw (← a .start) left;
+            column-is = λ m. rw (← a .start) (c ∙ (sym (refused-column words number line _) ∙ ap (λ o. o .column) out));
             image-is = λ z. absurd (n z);
           }
 
@@ -225,27 +254,40 @@ module _ (words : ℕ) (text image₀ : List ℕ) where
       ends : readLines words [] (line + 1) (reading ended upper image 0) ≡ outcome words text image₀
       ends = sym (left-none text at words line (reading ended upper image 0) done refl) ∙ a .rest
 
-      pub lines-ended : ended ≡ true → LinesRead words text image₀ (record { number = 0; line = 0; column = 0 }) image
+      pub lines-ended : ended ≡ true → LinesStopped words text image₀ 0 0 0 image
       lines-ended t =
           let out : _≡_ {A = Outcome} (record { number = 0; line = 0; column = 0; image = image }) (outcome words text image₀) =
           sym (lines-whole words (line + 1) (reading ended upper image 0) t) ∙ ends in
           record {
             number-is = ap (λ o. o .number) out;
             line-is = ap (λ o. o .line) out;
-            column-is = ap (λ o. o .column) out;
+            no-column = λ z. ap (λ o. o .column) out;
+            within = λ m. absurd (m refl);
+            column-is = λ m. absurd (m refl);
             image-is = λ z. ap (λ o. o .image) out;
           }
 
-      pub lines-not-ended : ended ≡ false → LinesRead words text image₀ (record { number = 10; line = 0; column = 0 }) image
+      pub lines-not-ended : ended ≡ false → LinesStopped words text image₀ 10 0 0 image
       lines-not-ended f =
           let out : refusedAt words 10 0 0 ≡ outcome words text image₀ =
           sym (lines-open words (line + 1) (reading ended upper image 0) f) ∙ ends in
           record {
             number-is = sym (refused-number words 10 0 0) ∙ ap (λ o. o .number) out;
             line-is = sym (refused-line words 10 0 0) ∙ ap (λ o. o .line) out;
-            column-is = sym (refused-column words 10 0 0) ∙ ap (λ o. o .column) out;
+            no-column = λ z. sym (refused-column words 10 0 0) ∙ ap (λ o. o .column) out;
+            within = λ m. absurd (m refl);
+            column-is = λ m. absurd (m refl);
             image-is = λ z. absurd (omega arith);
           }
+
+  -- with the column of a refused line
+  module _ (number line word : ℕ) (image : List ℕ) (s : LinesStopped words text image₀ number line word image) where
+    pub text-whole : line ≡ 0 → LinesRead words text image₀ (record { number = number; line = 0; column = 0 }) image
+    text-whole z = record { number-is = s .number-is; line-is = sym z ∙ s .line-is; column-is = s .no-column z; image-is = s .image-is }
+
+    pub text-refused : (line ≡ 0 → ⊥) → (column : ℕ) → column ≡ columnOf number (lineAt text (startOf text (line - 1))) word
+        → LinesRead words text image₀ (record { number = number; line = line; column = column }) image
+    text-refused n column c = record { number-is = s .number-is; line-is = s .line-is; column-is = c ∙ s .column-is n; image-is = s .image-is }
 
 -- ---- the image made blank
 

@@ -10,7 +10,7 @@ use lib.ListN.{length, getD, set}
 use borrow.Author.Tests.{eq-eqb, ne-eqb, le-leb, lt-leb}
 use Rattle.words.specs.Choice.{pick}
 use Rattle.words.specs.Word.{notGiven, isWord}
-use Rattle.words.specs.LawsChoice.{pick-true, pick-false}
+use Rattle.words.specs.LawsChoice.{pick-true}
 use Rattle.device.specs.Memory.{programmable}
 use Rattle.hexread.specs.Line.{countOf, isRecord, sumOk, typeOk, shapeOk, dataOk, lineNumber}
 use Rattle.hexread.specs.Step.{wordOf, entryOfWord, wordNumber, Reading, giveWords, recordStep, lineStep}
@@ -34,30 +34,31 @@ module _ (number : ℕ) (line : List ℕ) (word : ℕ) where
   unfolding columnOf pick
   at-word l m = rw (ne-eqb number 0 (λ z. omega arith), ne-eqb number 2 (λ z. omega arith), le-leb 7 number l, le-leb number 9 m)
 
-  pub at-line : 3 ≤ number → number ≤ 6 → columnOf number line word ≡ 1
-  unfolding columnOf pick
-  at-line l m = rw (ne-eqb number 0 (λ z. omega arith), ne-eqb number 2 (λ z. omega arith), lt-leb 7 number (omega arith))
-
-  pub at-line-11 : number ≡ 11 → columnOf number line word ≡ 1
-  unfolding columnOf pick
-  at-line-11 e = rw e
-
--- as the code looks for it
-
-module _ (number word : ℕ) where
-  pub no-word-column : number ≡ 0 → 0 ≡ pick (eqb number 0) 0 (wordColumn word)
-  no-word-column e = sym (pick-true _ _ _ (eq-eqb number 0 e))
-
-  pub a-word-column : (number ≡ 0 → ⊥) → 10 + 4 * word ≡ pick (eqb number 0) 0 (wordColumn word)
+  pub of-word : 7 ≤ number → number ≤ 9 → 10 + 4 * word ≡ columnOf number line word
   unfolding wordColumn
-  a-word-column n = sym (pick-false _ _ _ (ne-eqb number 0 n))
+  of-word l m = sym (at-word l m)
 
-module _ (number : ℕ) (line : List ℕ) where
-  pub character-column : number ≡ 2 → (column : ℕ) → column ≡ badColumn line → column ≡ pick (eqb number 2) (badColumn line) 1
-  character-column e column c = c ∙ sym (pick-true _ _ _ (eq-eqb number 2 e))
+  module _ (n : number ≡ 0 → ⊥) (t : number ≡ 2 → ⊥) where
+    pub at-line : number < 7 → columnOf number line word ≡ 1
+    unfolding columnOf pick
+    at-line h = rw (ne-eqb number 0 n, ne-eqb number 2 t, lt-leb 7 number h)
 
-  pub whole-column : (number ≡ 2 → ⊥) → 1 ≡ pick (eqb number 2) (badColumn line) 1
-  whole-column n = sym (pick-false _ _ _ (ne-eqb number 2 n))
+    pub at-line-11 : 9 < number → columnOf number line word ≡ 1
+    unfolding columnOf pick
+    at-line-11 h = rw (ne-eqb number 0 n, ne-eqb number 2 t, le-leb 7 number (omega arith), lt-leb number 9 h)
+
+-- only 7 to 9 have a word
+module _ (number : ℕ) (line : List ℕ) (a b : ℕ) where
+  pub no-word-low : number < 7 → columnOf number line a ≡ columnOf number line b
+  no-word-low h = by (ℕ-discrete number 0) (ℕ-discrete number 2)
+    where
+      by : Dec (number ≡ 0) → Dec (number ≡ 2) → columnOf number line a ≡ columnOf number line b
+      by (yes e) q = at-nothing number line a e ∙ sym (at-nothing number line b e)
+      by (no e) (yes q) = at-character number line a q ∙ sym (at-character number line b q)
+      by (no e) (no q) = at-line number line a e q h ∙ sym (at-line number line b e q h)
+
+  pub no-word-high : 9 < number → columnOf number line a ≡ columnOf number line b
+  no-word-high h = at-line-11 number line a (λ z. omega arith) (λ z. omega arith) h ∙ sym (at-line-11 number line b (λ z. omega arith) (λ z. omega arith) h)
 
 -- ---- which numbers a line and a word can have
 
@@ -160,58 +161,47 @@ module _ (words upper : ℕ) (line : List ℕ) where
 
 -- ---- a sound record
 
-pub record RecordTaken (words : ℕ) (line : List ℕ) (upper : ℕ) (image : List ℕ) (after : Reading) (column : ℕ) : Type 0 where
+-- the word decides the column, if one is refused
+pub record RecordTaken (words : ℕ) (line : List ℕ) (upper : ℕ) (image : List ℕ) (after : Reading) (word : ℕ) : Type 0 where
   pub step : after ≡ recordStep words line (reading false upper image 0)
-  pub column-is : column ≡ columnOf (after .number) line (refusedWord words upper line image 0 (countOf line / 2))
+  pub column-is : columnOf (after .number) line word ≡ columnOf (after .number) line (refusedWord words upper line image 0 (countOf line / 2))
 
 module _ (words : ℕ) (line : List ℕ) (upper : ℕ) (image : List ℕ) where
   pub taken-plain : (after : Reading) → after ≡ recordStep words line (reading false upper image 0) → after .number ≡ 0 → RecordTaken words line upper image after 0
-  taken-plain after e z = record { step = e; column-is = sym (at-nothing (after .number) line _ z) }
+  taken-plain after e z = record { step = e; column-is = no-word-low (after .number) line _ _ (omega arith) }
 
   pub taken-data : (kind : ℕ) → ByteRead line 3 kind → kind ≡ 0 → (image′ : List ℕ) (number word : ℕ) → stopped upper image′ number word ≡ gave words upper line image 0 (countOf line / 2)
-      → (column : ℕ) → column ≡ pick (eqb number 0) 0 (wordColumn word) → RecordTaken words line upper image (reading false upper image′ number) column
-  taken-data kind k z image′ number word g column c =
-      record { step = record-data words line upper image kind k z image′ number (ap (λ x. x .after) g); column-is = by (ℕ-discrete number 0) }
-    where
-      same : number ≡ giveWords words upper line image 0 (countOf line / 2) .number
-      same = ap (λ x. x .after .number) g
-
-      by : Dec (number ≡ 0) → column ≡ columnOf number line (refusedWord words upper line image 0 (countOf line / 2))
-      by (yes e) = c ∙ (pick-true _ _ _ (eq-eqb number 0 e) ∙ sym (at-nothing number line _ e))
-      by (no e) =
-          let r = give-number words upper line (countOf line / 2) 0 image (λ y. e (same ∙ y)) in
-          c ∙ (pick-false _ _ _ (ne-eqb number 0 e) ∙ (ap wordColumn (ap (λ x. x .word) g) ∙ sym (at-word number line _ (rw same (r .0)) (rw same (r .1)))))
+      → RecordTaken words line upper image (reading false upper image′ number) word
+  taken-data kind k z image′ number word g =
+      record { step = record-data words line upper image kind k z image′ number (ap (λ x. x .after) g); column-is = ap (columnOf number line) (ap (λ x. x .word) g) }
 
 -- ---- a line
 
-pub record LineTaken (words : ℕ) (line : List ℕ) (r after : Reading) (column : ℕ) : Type 0 where
+pub record LineTaken (words : ℕ) (line : List ℕ) (r after : Reading) (word : ℕ) : Type 0 where
   pub step : after ≡ lineStep words line r
-  pub column-is : column ≡ lineColumn words line r
+  pub column-is : columnOf (after .number) line word ≡ lineColumn words line r
 
 module _ (words : ℕ) (line : List ℕ) (ended : Bool) (upper : ℕ) (image : List ℕ) where
   -- the column by the number that the step comes to
-  column-by : (after : Reading) → after ≡ lineStep words line (reading ended upper image 0) → (column : ℕ)
-      → column ≡ columnOf (after .number) line (refusedWord words upper line image 0 (countOf line / 2)) → LineTaken words line (reading ended upper image 0) after column
+  column-by : (after : Reading) → after ≡ lineStep words line (reading ended upper image 0) → (word : ℕ)
+      → columnOf (after .number) line word ≡ columnOf (after .number) line (refusedWord words upper line image 0 (countOf line / 2))
+      → LineTaken words line (reading ended upper image 0) after word
   unfolding lineColumn
-  column-by after e column c =
+  column-by after e word c =
       record { step = e; column-is = c ∙ ap (λ s. columnOf (s .number) line (refusedWord words upper line image 0 (countOf line / 2))) e }
 
   pub line-skipped : length line ≡ 0 → LineTaken words line (reading ended upper image 0) (reading ended upper image 0) 0
-  line-skipped e = column-by _ (step-empty words line ended upper image e) 0 (sym (at-nothing 0 line _ refl))
+  line-skipped e = column-by _ (step-empty words line ended upper image e) 0 (no-word-low 0 line _ _ (omega arith))
 
   module _ (some : length line ≡ 0 → ⊥) where
-    pub line-after : ended ≡ true → LineTaken words line (reading ended upper image 0) (reading ended upper image 11) 1
-    line-after t = column-by _ (step-after words line ended upper image some t) 1 (sym (at-line-11 11 line _ refl))
+    pub line-after : ended ≡ true → LineTaken words line (reading ended upper image 0) (reading ended upper image 11) 0
+    line-after t = column-by _ (step-after words line ended upper image some t) 0 (no-word-high 11 line _ _ (omega arith))
 
     module _ (going : ended ≡ false) (number : ℕ) (n : number ≡ lineNumber line) where
-      pub line-bad : (number ≡ 0 → ⊥) → (column : ℕ) → column ≡ pick (eqb number 2) (badColumn line) 1 → LineTaken words line (reading ended upper image 0) (reading ended upper image number) column
-      line-bad z column c = column-by _ (step-bad words line ended upper image some going number n z) column (by (ℕ-discrete number 2))
-        where
-          by : Dec (number ≡ 2) → column ≡ columnOf number line (refusedWord words upper line image 0 (countOf line / 2))
-          by (yes e) = c ∙ (pick-true _ _ _ (eq-eqb number 2 e) ∙ sym (at-character number line _ e))
-          by (no e) =
-              let m = line-number-most line (λ y. z (n ∙ y)) in
-              c ∙ (pick-false _ _ _ (ne-eqb number 2 e) ∙ sym (at-line number line _ (omega (arith, m .0)) (rw n (m .1))))
+      pub line-bad : (number ≡ 0 → ⊥) → LineTaken words line (reading ended upper image 0) (reading ended upper image number) 0
+      line-bad z =
+          let m : lineNumber line ≤ 6 = line-number-most line (λ y. z (n ∙ y)) .1 in
+          column-by _ (step-bad words line ended upper image some going number n z) 0 (no-word-low number line _ _ (omega arith))
 
-      pub line-record : number ≡ 0 → (after : Reading) (column : ℕ) → RecordTaken words line upper image after column → LineTaken words line (reading ended upper image 0) after column
-      line-record z after column t = column-by after (step-record words line ended upper image some going number n z after (t .step)) column (t .column-is)
+      pub line-record : number ≡ 0 → (after : Reading) (word : ℕ) → RecordTaken words line upper image after word → LineTaken words line (reading ended upper image 0) after word
+      line-record z after word t = column-by after (step-record words line ended upper image some going number n z after (t .step)) word (t .column-is)

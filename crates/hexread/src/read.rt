@@ -1,6 +1,7 @@
 // Reading HEX text into an image: the lines one after another, each looked at once.
 use crate::MOST_TEXT;
 use crate::ReadHex;
+use crate::column::column_in;
 use crate::step::take_line;
 use device::Device;
 use device::READING_TAIL;
@@ -12,7 +13,7 @@ ghost use lib.ListN.{length, replicate};
 ghost use Rattle.words.specs.Word.{notGiven};
 ghost use Rattle.device.specs.Memory.{readingTail};
 ghost use Rattle.hexread.specs.Reader.{mostText, HexRead};
-ghost use Rattle.hexread.specs.LawsReader.{LinesRead};
+ghost use Rattle.hexread.specs.LawsReader.{LinesRead, LinesStopped};
 
 // Reads the words that a HEX text gives. A refused text leaves every entry 'not given'; 12 and 13 leave the image as it was.
 pub fn read_hex(d: Device, text: &[u8], image: &mut [u16]) -> ReadHex
@@ -40,17 +41,44 @@ pub fn read_hex(d: Device, text: &[u8], image: &mut [u16]) -> ReadHex
             column: 0,
         };
     }
-    let r = read_lines(d.words, text, image);
+    let r = read_text(d.words, text, image);
     if r.number != 0 {
         clear(image);
     }
     r
 }
 
-// The lines of a text until one is refused, with one table and one record's bytes for all of them; 10 if no end record came.
-fn read_lines(words: u16, text: &[u8], image: &mut [u16]) -> ReadHex
+// The lines of a text until one is refused, and then its column.
+fn read_text(words: u16, text: &[u8], image: &mut [u16]) -> ReadHex
     requires { ⌜ (length (now image) ≡ words + readingTail) × (length (now text) ≤ mostText) ⌝ }
     ensures { λ r. ⌜ LinesRead words (now (text .entry)) (now (image .entry)) r (now (image .exit)) ⌝ }
+{
+    let s = read_lines(words, text, image);
+    if s.line == 0 {
+        return ReadHex {
+            number: s.number,
+            line: 0,
+            column: 0,
+        };
+    }
+    ReadHex {
+        number: s.number,
+        line: s.line,
+        column: column_in(text, s.line, s.number, s.word),
+    }
+}
+
+// Where the lines stopped: 0, or a refusal, its line, and the refused word, for 7 to 9.
+struct Stop {
+    number: u8,
+    line: u32,
+    word: u8,
+}
+
+// The lines of a text until one is refused, with one table and one record's bytes for all of them; 10 if no end record came.
+fn read_lines(words: u16, text: &[u8], image: &mut [u16]) -> Stop
+    requires { ⌜ (length (now image) ≡ words + readingTail) × (length (now text) ≤ mostText) ⌝ }
+    ensures { λ r. ⌜ LinesStopped words (now (text .entry)) (now (image .entry)) (r .number) (r .line) (r .word) (now (image .exit)) ⌝ }
 {
     let digits = numerals::hex::digits();
     let mut bytes = [0u8; 260];
@@ -72,10 +100,10 @@ fn read_lines(words: u16, text: &[u8], image: &mut [u16]) -> ReadHex
         );
         line = next.line;
         if s.number != 0 {
-            return ReadHex {
+            return Stop {
                 number: s.number,
                 line,
-                column: s.column,
+                word: s.word,
             };
         }
         ended = s.ended;
@@ -83,16 +111,16 @@ fn read_lines(words: u16, text: &[u8], image: &mut [u16]) -> ReadHex
         at = next.at;
     }
     if ended {
-        return ReadHex {
+        return Stop {
             number: 0,
             line: 0,
-            column: 0,
+            word: 0,
         };
     }
-    ReadHex {
+    Stop {
         number: 10,
         line: 0,
-        column: 0,
+        word: 0,
     }
 }
 

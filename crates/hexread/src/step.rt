@@ -1,6 +1,4 @@
 // What one line does to a reading.
-use crate::column::line_column;
-use crate::column::word_column;
 use crate::give::Given;
 use crate::give::first_entry;
 use crate::give::give_words;
@@ -9,22 +7,21 @@ use crate::line::judge_line;
 ghost use mathlib.Core.Path.{_≡_};
 ghost use mathlib.Core.Bool.{false};
 ghost use mathlib.Core.List.{List};
-ghost use Prim.Native.Nat.{ℕ, _+_, _≤_};
+ghost use Prim.Native.Nat.{ℕ, _+_};
 ghost use lib.ListN.{length};
 ghost use Rattle.words.specs.Lists.{build};
 ghost use Rattle.numerals.specs.Hex.{digitOf};
 ghost use Rattle.device.specs.Memory.{readingTail};
-ghost use Rattle.hexread.specs.Reader.{mostText};
 ghost use Rattle.hexread.specs.LawsDecode.{Sound};
 ghost use Rattle.hexread.specs.LawsGive.{reading, Gives};
 ghost use Rattle.hexread.specs.LawsTaken.{RecordTaken, LineTaken};
 
-// Where a reading stands after a line: the end record was seen, the upper half, and a refusal with its column, or 0 with column 0.
+// Where a reading stands after a line: the end record was seen, the upper half, and a refusal or 0. The word is the refused one, for 7 to 9.
 pub(crate) struct Step {
     pub ended: bool,
     pub upper: u32,
     pub number: u8,
-    pub column: u32,
+    pub word: u8,
 }
 
 // One line: an empty one is skipped, after the end record any other is refused.
@@ -37,15 +34,15 @@ pub(crate) fn take_line(
     bytes: &mut [u8],
     image: &mut [u16],
 ) -> Step
-    requires { ⌜ (now digits ≡ build 256 digitOf) × (length (now bytes) ≡ 260) × (length (now image) ≡ words + readingTail) × (length (now line) ≤ mostText) ⌝ }
-    ensures { λ r. ⌜ LineTaken words (now (line .entry)) (reading ended upper (now (image .entry)) 0) (reading (r .ended) (r .upper) (now (image .exit)) (r .number)) (r .column) ⌝ }
+    requires { ⌜ (now digits ≡ build 256 digitOf) × (length (now bytes) ≡ 260) × (length (now image) ≡ words + readingTail) ⌝ }
+    ensures { λ r. ⌜ LineTaken words (now (line .entry)) (reading ended upper (now (image .entry)) 0) (reading (r .ended) (r .upper) (now (image .exit)) (r .number)) (r .word) ⌝ }
 {
     if line.len() == 0 {
         return Step {
             ended,
             upper,
             number: 0,
-            column: 0,
+            word: 0,
         };
     }
     if ended {
@@ -53,7 +50,7 @@ pub(crate) fn take_line(
             ended,
             upper,
             number: 11,
-            column: 1,
+            word: 0,
         };
     }
     let number = judge_line(digits, line, bytes);
@@ -62,7 +59,7 @@ pub(crate) fn take_line(
             ended,
             upper,
             number,
-            column: line_column(digits, line, number),
+            word: 0,
         };
     }
     take_record(words, bytes, upper, image)
@@ -71,7 +68,7 @@ pub(crate) fn take_line(
 // A sound record, whatever line it was decoded from: data gives its words, the end is noted, an upper half is kept for what follows.
 fn take_record(words: u16, bytes: &[u8], upper: u32, image: &mut [u16]) -> Step
     requires { ⌜ (length (now bytes) ≡ 260) × (length (now image) ≡ words + readingTail) ⌝ }
-    ensures { λ r. ⌜ ((line : List ℕ) → Sound line (now (bytes .entry)) → RecordTaken words line upper (now (image .entry)) (reading (r .ended) (r .upper) (now (image .exit)) (r .number)) (r .column)) ⌝ }
+    ensures { λ r. ⌜ ((line : List ℕ) → Sound line (now (bytes .entry)) → RecordTaken words line upper (now (image .entry)) (reading (r .ended) (r .upper) (now (image .exit)) (r .number)) (r .word)) ⌝ }
 {
     let kind = bytes[3];
     if kind == 0 {
@@ -80,7 +77,7 @@ fn take_record(words: u16, bytes: &[u8], upper: u32, image: &mut [u16]) -> Step
             ended: false,
             upper,
             number: given.number,
-            column: word_column(given.number, given.word),
+            word: given.word,
         };
     }
     if kind == 1 {
@@ -88,7 +85,7 @@ fn take_record(words: u16, bytes: &[u8], upper: u32, image: &mut [u16]) -> Step
             ended: true,
             upper,
             number: 0,
-            column: 0,
+            word: 0,
         };
     }
     let high = bytes[4];
@@ -97,7 +94,7 @@ fn take_record(words: u16, bytes: &[u8], upper: u32, image: &mut [u16]) -> Step
         ended: false,
         upper: 256 * (high as u32) + (low as u32),
         number: 0,
-        column: 0,
+        word: 0,
     }
 }
 

@@ -31,8 +31,8 @@ returns-3 : tie.Need-returns-3
 returns-3 c = hex-1 _ _ _ (ok-of-judged _ (sym (c .before .before .before .before .before .before .before .before .judge .ensures)
     ∙ c .before .before .before .before .before .before .before .if1 .left)) (c .before .before .before .before .before .if2 .left) (c .if3 .taken) _ (c .before .before .before .clear .ensures)
 
-read-lines-requires : tie.Need-read-lines-requires
-read-lines-requires c κs = search needs
+read-text-requires : tie.Need-read-text-requires
+read-text-requires c κs = search needs
 
 clear-requires-2 : tie.Need-clear-requires-2
 clear-requires-2 c κs = search needs
@@ -47,8 +47,8 @@ returns-4 c = hex-refused _ _ _ (ok-of-judged _ (sym
     (c .before .before .before .before .before .before .before .before .before .before .before .before .before .before .before .if2 .left)
     (c .before .before .before .before .before .before .before .before .before .before .if3 .left) _
     (c .before .before .before .before .before .before .before .before .before .before .before .before .before .clear .ensures) _ _
-    (c .before .before .before .before .before .before .before .before .read-lines .ensures) (c .before .before .before .before .if4 .taken) _
-    (c .before .before .before .before .before .before .before .before .read-lines .kept .1 .1 .0) (c .before .before .clear2 .ensures)
+    (c .before .before .before .before .before .before .before .before .read-text .ensures) (c .before .before .before .before .if4 .taken) _
+    (c .before .before .before .before .before .before .before .before .read-text .kept .1 .1 .0) (c .before .before .clear2 .ensures)
 
 same-length-3 : tie.Need-same-length-3
 same-length-3 c = search needs
@@ -58,7 +58,7 @@ returns-5 c = hex-read _ _ _ (ok-of-judged _
     (sym (c .before .before .before .before .before .before .before .before .before .before .before .before .before .before .judge .ensures)
     ∙ c .before .before .before .before .before .before .before .before .before .before .before .before .before .if1 .left))
     (c .before .before .before .before .before .before .before .before .before .before .before .if2 .left) (c .before .before .before .before .before .before .if3 .left) _
-    (c .before .before .before .before .before .before .before .before .before .clear .ensures) _ _ (c .before .before .before .before .read-lines .ensures) (c .if4 .left)
+    (c .before .before .before .before .before .before .before .before .before .clear .ensures) _ _ (c .before .before .before .before .read-text .ensures) (c .if4 .left)
 
 pub read-hex-spec : {M : Type 1} → statement M
 read-hex-spec =
@@ -72,7 +72,7 @@ read-hex-spec =
     clear-requires
     same-length
     returns-3
-    read-lines-requires
+    read-text-requires
     clear-requires-2
     same-length-2
     returns-4

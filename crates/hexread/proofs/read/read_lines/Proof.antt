@@ -1,5 +1,5 @@
 -- The lines ahead give the rest.
-use Rattle.hexread.specs.LawsNext.{line-left, line-fits, ahead-next, refused-next}
+use Rattle.hexread.specs.LawsNext.{line-left, ahead-next, refused-next}
 use Rattle.hexread.specs.LawsReader.{Ahead, ahead-all, lines-ended, lines-not-ended}
 use lib.ListN.{length}
 use mathlib.Core.Path.{_≡_, refl, sym, _∙_}
@@ -37,20 +37,14 @@ slice-aggregate-take-line : tie.Need-slice-aggregate-take-line Inv-loop μ-loop
 slice-aggregate-take-line c = sym (c .before .before .before .before .before .loop .inv .0)
 
 take-line-requires : tie.Need-take-line-requires Inv-loop μ-loop
-take-line-requires c κs = (
-  c .before .before .before .before .before .before .before .digits .ensures,
-  c .before .before .before .before .before .before .loop .inv .0,
-  c .before .before .before .before .before .before .loop .inv .1 .long,
-  line-fits _ _ _ _ _ _ _ _ (c .before .before .before .before .before .before .loop .inv .1) (c .before .before .before .before .before .loop-test .taken) _ (c .before .before .before .before .line-from .ensures),
-)
+take-line-requires c κs = (c .before .before .before .before .before .before .before .digits .ensures, c .before .before .before .before .before .before .loop .inv .0, c .before .before .before .before .before .before .loop .inv .1 .long)
 
 same-length : tie.Need-same-length Inv-loop μ-loop
 same-length c = c .before .before .before .before .before .take-line .kept .1 .1 .1 .1 .1 .1 .0
     ∙ c .before .before .before .before .before .before .before .before .before .before .before .before .loop .inv .1 .kept
 
 returns : tie.Need-returns Inv-loop μ-loop
-returns c = refused-next _ _ _ _ _ _ _ _ (c .before .before .before .before .before .before .before .before .before .before .before .before .loop .inv .1)
-    (c .before .before .before .before .before .before .before .before .before .before .before .loop-test .taken) _
+returns c = refused-next _ _ _ _ _ _ _ _ (c .before .before .before .before .before .before .before .before .before .before .before .before .loop .inv .1) (c .before .before .before .before .before .before .before .before .before .before .before .loop-test .taken) _
     (c .before .before .before .before .before .before .before .before .before .before .line-from .ensures) _ _ _ _ _ (c .before .before .before .before .before .take-line .ensures) (c .if1 .taken)
 
 loop-less : tie.Need-loop-less Inv-loop μ-loop

@@ -13,14 +13,11 @@ returns-2 c = line-after _ _ _ _ _ (c .before .if1 .left) (c .if2 .taken)
 judge-line-requires : tie.Need-judge-line-requires
 judge-line-requires c κs = search needs
 
-line-column-requires : tie.Need-line-column-requires
-line-column-requires c κs = search needs
-
 same-length : tie.Need-same-length
 same-length c = search needs
 
 returns-3 : tie.Need-returns-3
-returns-3 c = line-bad _ _ _ _ _ (c .before .before .before .before .before .before .before .if1 .left) (c .before .before .before .before .before .before .if2 .left) _ (c .before .before .before .before .judge-line .ensures .number) (c .before .if3 .taken) _ (c .line-column .ensures)
+returns-3 c = line-bad _ _ _ _ _ (c .before .before .before .before .before .before .if1 .left) (c .before .before .before .before .before .if2 .left) _ (c .before .before .before .judge-line .ensures .number) (c .if3 .taken)
 
 take-record-requires : tie.Need-take-record-requires
 take-record-requires c κs = search needs
@@ -42,7 +39,6 @@ take-line-spec =
     returns
     returns-2
     judge-line-requires
-    line-column-requires
     same-length
     returns-3
     take-record-requires
