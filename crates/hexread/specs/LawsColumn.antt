@@ -155,19 +155,21 @@ pub record LineTold (words : ℕ) (ls : List (List ℕ)) (k : ℕ) (r : Reading)
   pub within : place < length ls
   pub line-is : o .line ≡ k + place
   pub before : allTaken words (take place ls) r ≡ true
+  pub going : stepAll words (take place ls) r .number ≡ 0
   pub number-is : o .number ≡ lineStep words (getD ls place []) (stepAll words (take place ls) r) .number
   pub column-is : o .column ≡ lineColumn words (getD ls place []) (stepAll words (take place ls) r)
 
 module _ (words : ℕ) (l : List ℕ) (ls : List (List ℕ)) (k : ℕ) (r : Reading) where
-  told-here : (lineStep words l r .number ≡ 0 → ⊥) → LineTold words (l ∷ ls) k r (readLines words (l ∷ ls) k r)
+  told-here : r .number ≡ 0 → (lineStep words l r .number ≡ 0 → ⊥) → LineTold words (l ∷ ls) k r (readLines words (l ∷ ls) k r)
   unfolding stepAll allTaken
-  told-here n =
+  told-here z n =
       let stop = lines-stop words l ls k r n in
       record {
         place = 0;
         within = omega arith;
         line-is = ap (λ o. o .line) stop ∙ (refused-line words _ k _ ∙ omega arith);
         before = refl;
+        going = z;
         number-is = ap (λ o. o .number) stop ∙ refused-number words _ k _;
         column-is = ap (λ o. o .column) stop ∙ refused-column words _ k _;
       }
@@ -182,23 +184,24 @@ module _ (words : ℕ) (l : List ℕ) (ls : List (List ℕ)) (k : ℕ) (r : Read
         within = omega (arith, t .within);
         line-is = ap (λ o. o .line) on ∙ (t .line-is ∙ omega arith);
         before = both (eqb (lineStep words l r .number) 0) _ (eq-eqb (lineStep words l r .number) 0 e) (t .before);
+        going = t .going;
         number-is = ap (λ o. o .number) on ∙ t .number-is;
         column-is = ap (λ o. o .column) on ∙ t .column-is;
       }
 
-lines-told : (words : ℕ) (ls : List (List ℕ)) (k : ℕ) (r : Reading) → (readLines words ls k r .line ≡ 0 → ⊥) → LineTold words ls k r (readLines words ls k r)
-lines-told words [] k r n = by (decided (r .ended))
+lines-told : (words : ℕ) (ls : List (List ℕ)) (k : ℕ) (r : Reading) → r .number ≡ 0 → (readLines words ls k r .line ≡ 0 → ⊥) → LineTold words ls k r (readLines words ls k r)
+lines-told words [] k r z n = by (decided (r .ended))
   where
     by : (r .ended ≡ true) ⊎ (r .ended ≡ false) → LineTold words [] k r (readLines words [] k r)
     by (inl t) = absurd (n (ap (λ o. o .line) (lines-whole words k r t)))
     by (inr f) = absurd (n (ap (λ o. o .line) (lines-open words k r f) ∙ refused-line words 10 0 0))
-lines-told words (l ∷ ls) k r n = by (ℕ-discrete (lineStep words l r .number) 0) (lines-told words ls (k + 1) (lineStep words l r))
+lines-told words (l ∷ ls) k r z n = by (ℕ-discrete (lineStep words l r .number) 0) (lines-told words ls (k + 1) (lineStep words l r))
   where
     by : Dec (lineStep words l r .number ≡ 0)
-        → ((readLines words ls (k + 1) (lineStep words l r) .line ≡ 0 → ⊥) → LineTold words ls (k + 1) (lineStep words l r) (readLines words ls (k + 1) (lineStep words l r)))
+        → (lineStep words l r .number ≡ 0 → (readLines words ls (k + 1) (lineStep words l r) .line ≡ 0 → ⊥) → LineTold words ls (k + 1) (lineStep words l r) (readLines words ls (k + 1) (lineStep words l r)))
         → LineTold words (l ∷ ls) k r (readLines words (l ∷ ls) k r)
-    by (yes e) rest = told-later words l ls k r e (rest (λ z. n (ap (λ o. o .line) (lines-on words l ls k r e) ∙ z)))
-    by (no e) rest = told-here words l ls k r e
+    by (yes e) rest = told-later words l ls k r e (rest e (λ y. n (ap (λ o. o .line) (lines-on words l ls k r e) ∙ y)))
+    by (no e) rest = told-here words l ls k r z e
 
 pub line-told : (d : Device) (text image : List ℕ) → (textRead d text image .line ≡ 0 → ⊥) → LineTold (d .words) (linesOf text) 1 (begun (d .words)) (textRead d text image)
 unfolding textRead
@@ -210,7 +213,7 @@ line-told d text image = by (deviceOk d) (eqb (length image) (d .words + reading
         (record { number = 13; line = 0; column = 0; image = image })
 
     by : (t u v : Bool) → (outcome t u v .line ≡ 0 → ⊥) → LineTold (d .words) (linesOf text) 1 (begun (d .words)) (outcome t u v)
-    by true true true n = unfold pick in lines-told (d .words) (linesOf text) 1 (begun (d .words)) n
+    by true true true n = unfold pick begun in lines-told (d .words) (linesOf text) 1 (begun (d .words)) refl n
     by true true false n = absurd (n (unfold pick in refused-line (d .words) 1 0 0))
     by true false v n = absurd (n (unfold pick in refl))
     by false u v n = absurd (n (unfold pick in refl))

@@ -14,7 +14,7 @@ use Rattle.lines.specs.declared.NextLine.{NextLine}
 use Rattle.hexread.specs.Column.{columnOf}
 use Rattle.hexread.specs.Reader.{mostText}
 use Rattle.hexread.specs.LawsGive.{reading}
-use Rattle.hexread.specs.LawsReader.{startOf, Ahead, LinesStopped, ahead-on, lines-refused}
+use Rattle.hexread.specs.LawsReader.{lineStart, Ahead, LinesStopped, ahead-on, lines-refused}
 use Rattle.hexread.specs.LawsTaken.{LineTaken}
 
 -- `line` lines are read, and the next one is taken
@@ -52,42 +52,42 @@ module _ (text : List ℕ) (at : ℕ) (left : at < length text) (n : NextLine) (
 
 -- ---- a line that is looked for by its number
 
-starts-on : (text : List ℕ) (k : ℕ) → startOf text k < startOf text (suc k)
-unfolding startOf endOf
+starts-on : (text : List ℕ) (k : ℕ) → lineStart text k < lineStart text (suc k)
+unfolding lineStart endOf
 starts-on text k = omega arith
 
-starts-before : (text : List ℕ) (k m : ℕ) → k ≤ m → startOf text k ≤ startOf text m
+starts-before : (text : List ℕ) (k m : ℕ) → k ≤ m → lineStart text k ≤ lineStart text m
 starts-before text k zero h = let e : k ≡ 0 = omega arith in rw e (omega arith)
 starts-before text k (suc m) h = by (ℕ-discrete k (suc m)) (starts-before text k m)
   where
-    by : Dec (k ≡ suc m) → (k ≤ m → startOf text k ≤ startOf text m) → startOf text k ≤ startOf text (suc m)
+    by : Dec (k ≡ suc m) → (k ≤ m → lineStart text k ≤ lineStart text m) → lineStart text k ≤ lineStart text (suc m)
     by (yes e) rest = rw e (omega arith)
     by (no e) rest = omega (arith, rest (omega arith), starts-on text m)
 
 -- k lines are passed
 pub record Passed (text : List ℕ) (before k at : ℕ) : Type 0 where
   pub within : k ≤ before
-  pub start : at ≡ startOf text k
+  pub start : at ≡ lineStart text k
 
 module _ (text : List ℕ) (before : ℕ) where
   pub passed-none : Passed text before 0 0
-  unfolding startOf
+  unfolding lineStart
   passed-none = record { within = omega arith; start = refl }
 
   module _ (k at : ℕ) (p : Passed text before k at) where
-    pub passed-more : startOf text before < length text → k < before → (n : NextLine) → n ≡ nextLine text at 0 → Passed text before (k + 1) (n .at)
-    unfolding startOf
+    pub passed-more : lineStart text before < length text → k < before → (n : NextLine) → n ≡ nextLine text at 0 → Passed text before (k + 1) (n .at)
+    unfolding lineStart
     passed-more far h n e =
         let left : at < length text = (rw (p .start) (omega (arith, starts-before text k before (p .within)))) in
         record { within = omega arith; start = rw add-one (line-again text at left n e .at-is ∙ ap (λ j. endOf text j + 1) (p .start)) }
 
-    pub passed-all : before ≤ k → at ≡ startOf text before
-    passed-all h = let e : k ≡ before = omega (arith, p .within) in p .start ∙ ap (startOf text) e
+    pub passed-all : before ≤ k → at ≡ lineStart text before
+    passed-all h = let e : k ≡ before = omega (arith, p .within) in p .start ∙ ap (lineStart text) e
 
 -- the place that was found
-module _ (text : List ℕ) (k at : ℕ) (e : at ≡ startOf text k) where
-  pub start-left : startOf text k < length text → at < length text
+module _ (text : List ℕ) (k at : ℕ) (e : at ≡ lineStart text k) where
+  pub start-left : lineStart text k < length text → at < length text
   start-left h = rw e h
 
-  pub column-there : (number word column : ℕ) → column ≡ columnOf number (lineAt text at) word → column ≡ columnOf number (lineAt text (startOf text k)) word
+  pub column-there : (number word column : ℕ) → column ≡ columnOf number (lineAt text at) word → column ≡ columnOf number (lineAt text (lineStart text k)) word
   column-there number word column c = c ∙ ap (λ j. columnOf number (lineAt text j) word) e

@@ -165,9 +165,9 @@ left-none text from words k now h z =
 -- ---- the loop over the lines
 
 -- where the line after k lines begins
-unfoldable pub startOf : (text : List ℕ) → (k : ℕ) → ℕ
-startOf text zero = 0
-startOf text (suc k) = endOf text (startOf text k) + 1
+unfoldable pub lineStart : (text : List ℕ) → (k : ℕ) → ℕ
+lineStart text zero = 0
+lineStart text (suc k) = endOf text (lineStart text k) + 1
 
 abbrev pub outcome : (words : ℕ) → (text image : List ℕ) → Outcome
 outcome words text image = readLines words (linesOf text) 1 (reading false 0 image 0)
@@ -182,7 +182,7 @@ pub record Ahead (words : ℕ) (text image₀ : List ℕ) (at line : ℕ) (ended
   pub within : at ≤ length text + 1
   pub count : line ≤ at + 1
   pub least : 1 ≤ line
-  pub start : at ≡ startOf text (line - 1)
+  pub start : at ≡ lineStart text (line - 1)
   pub long : length image ≡ words + readingTail
   pub kept : length image ≡ length image₀
   pub rest : readLines words (linesOf (drop at text)) line (reading ended upper image 0) ≡ outcome words text image₀
@@ -192,8 +192,8 @@ pub record LinesStopped (words : ℕ) (text image₀ : List ℕ) (number line wo
   pub number-is : number ≡ outcome words text image₀ .number
   pub line-is : line ≡ outcome words text image₀ .line
   pub no-column : line ≡ 0 → 0 ≡ outcome words text image₀ .column
-  pub within : (line ≡ 0 → ⊥) → startOf text (line - 1) < length text
-  pub column-is : (line ≡ 0 → ⊥) → columnOf number (lineAt text (startOf text (line - 1))) word ≡ outcome words text image₀ .column
+  pub within : (line ≡ 0 → ⊥) → lineStart text (line - 1) < length text
+  pub column-is : (line ≡ 0 → ⊥) → columnOf number (lineAt text (lineStart text (line - 1))) word ≡ outcome words text image₀ .column
   pub image-is : number ≡ 0 → image ≡ outcome words text image₀ .image
 
 -- what that comes to
@@ -205,7 +205,7 @@ pub record LinesRead (words : ℕ) (text image₀ : List ℕ) (r : ReadHex) (ima
 
 module _ (words : ℕ) (text image₀ : List ℕ) where
   pub ahead-all : length text ≤ mostText → length image₀ ≡ words + readingTail → Ahead words text image₀ 0 1 false 0 image₀
-  ahead-all s l = record { short = s; within = omega arith; count = omega arith; least = omega arith; start = unfold startOf in refl; long = l; kept = refl; rest = refl }
+  ahead-all s l = record { short = s; within = omega arith; count = omega arith; least = omega arith; start = unfold lineStart in refl; long = l; kept = refl; rest = refl }
 
   module _ (at line : ℕ) (ended : Bool) (upper : ℕ) (image : List ℕ) (a : Ahead words text image₀ at line ended upper image) where
     module _ (left : at < length text) (ended′ : Bool) (upper′ : ℕ) (image′ : List ℕ) (number : ℕ)
@@ -213,8 +213,8 @@ module _ (words : ℕ) (text image₀ : List ℕ) where
       here : at ≤ length text
       here = omega arith
 
-      next-start : endOf text at + 1 ≡ startOf text (line + 1 - 1)
-      unfolding startOf
+      next-start : endOf text at + 1 ≡ lineStart text (line + 1 - 1)
+      unfolding lineStart
       next-start =
           let e : line + 1 - 1 ≡ suc (line - 1) = omega (arith, a .least) in
           rw e (ap (λ k. endOf text k + 1) (a .start))
@@ -285,7 +285,7 @@ module _ (words : ℕ) (text image₀ : List ℕ) where
     pub text-whole : line ≡ 0 → LinesRead words text image₀ (record { number = number; line = 0; column = 0 }) image
     text-whole z = record { number-is = s .number-is; line-is = sym z ∙ s .line-is; column-is = s .no-column z; image-is = s .image-is }
 
-    pub text-refused : (line ≡ 0 → ⊥) → (column : ℕ) → column ≡ columnOf number (lineAt text (startOf text (line - 1))) word
+    pub text-refused : (line ≡ 0 → ⊥) → (column : ℕ) → column ≡ columnOf number (lineAt text (lineStart text (line - 1))) word
         → LinesRead words text image₀ (record { number = number; line = line; column = column }) image
     text-refused n column c = record { number-is = s .number-is; line-is = s .line-is; column-is = c ∙ s .column-is n; image-is = s .image-is }
 

@@ -11,13 +11,13 @@ ghost use Rattle.lines.specs.Lines.{lineAt};
 ghost use Rattle.hexread.specs.Line.{countOf};
 ghost use Rattle.hexread.specs.Column.{canStand, badColumn, columnOf};
 ghost use Rattle.hexread.specs.Reader.{mostText};
-ghost use Rattle.hexread.specs.LawsReader.{startOf};
+ghost use Rattle.hexread.specs.LawsReader.{lineStart};
 
 // The column of a refused line of a text, by its number, and of the word that is refused, for 7 to 9.
 // The line is looked for once more, so that the loop over a sound text keeps nothing for this.
 pub(crate) fn column_in(text: &[u8], line: u32, number: u8, word: u8) -> u32
-    requires { ⌜ (1 ≤ line) × (startOf (now text) (line - 1) < length (now text)) × (length (now text) ≤ mostText) ⌝ }
-    ensures { λ r. ⌜ r ≡ columnOf number (lineAt (now (text .entry)) (startOf (now (text .entry)) (line - 1))) word ⌝ }
+    requires { ⌜ (1 ≤ line) × (lineStart (now text) (line - 1) < length (now text)) × (length (now text) ≤ mostText) ⌝ }
+    ensures { λ r. ⌜ r ≡ columnOf number (lineAt (now (text .entry)) (lineStart (now (text .entry)) (line - 1))) word ⌝ }
 {
     let at = start_of(text, line - 1);
     let digits = numerals::hex::digits();
@@ -47,8 +47,8 @@ fn column_of(digits: &[u8; 256], line: &[u8], number: u8, word: u8) -> u32
 
 // Where the line after so many begins.
 fn start_of(text: &[u8], before: u32) -> usize
-    requires { ⌜ startOf (now text) before < length (now text) ⌝ }
-    ensures { λ r. ⌜ r ≡ startOf (now (text .entry)) before ⌝ }
+    requires { ⌜ lineStart (now text) before < length (now text) ⌝ }
+    ensures { λ r. ⌜ r ≡ lineStart (now (text .entry)) before ⌝ }
 {
     let mut at = 0;
     let mut k: u32 = 0;
