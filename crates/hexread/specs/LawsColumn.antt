@@ -22,7 +22,7 @@ use Rattle.hexread.specs.Column.{badColumn, refusedWord, wordColumn, col
 use Rattle.hexread.specs.Reader.{mostText, Outcome, refusedAt, readLines, begun, textRead}
 use Rattle.hexread.specs.LawsStand.{FirstBad, first-bad, record-byte}
 use Rattle.hexread.specs.LawsReader.{lines-on, lines-stop, lines-whole, lines-open, refused-number, refused-line, refused-column}
-use Rattle.hexread.specs.LawsTaken.{WordRefused, word-refused, line-number-most, at-nothing, at-character, at-word, sound-record}
+use Rattle.hexread.specs.LawsTaken.{WordRefused, word-refused, line-number-most, at-character, at-word, sound-record}
 use Rattle.hexread.specs.LawsLines.{stepAll, allTaken}
 
 -- ---- one line
@@ -107,10 +107,6 @@ module _ (words : ℕ) (line : List ℕ) (r : Reading) where
       by true u = unfold pick in omega arith
       by false true = unfold pick in omega arith
       by false false = unfold pick in omega arith
-
-  column-nothing : lineStep words line r .number ≡ 0 → lineColumn words line r ≡ 0
-  unfolding lineColumn
-  column-nothing e = at-nothing (lineStep words line r .number) line _ e
 
 -- ---- a text
 

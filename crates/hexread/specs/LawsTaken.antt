@@ -6,12 +6,10 @@ use mathlib.Core.Path.{_≡_, refl, sym, ap, _∙_}
 use mathlib.Core.Bool.{Bool, true, false}
 use mathlib.Core.List.{List}
 use lib.Dec.{eqb}
-use lib.ListN.{length, getD, set}
+use lib.ListN.{length, set}
 use borrow.Author.Tests.{eq-eqb, ne-eqb, le-leb, lt-leb}
 use Rattle.words.specs.Choice.{pick}
-use Rattle.words.specs.Word.{notGiven, isWord}
 use Rattle.words.specs.LawsChoice.{pick-true}
-use Rattle.device.specs.Memory.{programmable}
 use Rattle.hexread.specs.Line.{countOf, isRecord, sumOk, typeOk, shapeOk, dataOk, lineNumber}
 use Rattle.hexread.specs.Step.{wordOf, entryOfWord, wordNumber, Reading, giveWords, recordStep, lineStep}
 use Rattle.hexread.specs.Column.{badColumn, refusedWord, wordColumn, columnOf, lineColumn}
@@ -60,7 +58,7 @@ module _ (number : ℕ) (line : List ℕ) (a b : ℕ) where
   pub no-word-high : 9 < number → columnOf number line a ≡ columnOf number line b
   no-word-high h = at-line-11 number line a (λ z. omega arith) (λ z. omega arith) h ∙ sym (at-line-11 number line b (λ z. omega arith) (λ z. omega arith) h)
 
--- ---- which numbers a line and a word can have
+-- ---- which numbers a line can have
 
 pub line-number-most : (line : List ℕ) → (lineNumber line ≡ 0 → ⊥) → (2 ≤ lineNumber line) × (lineNumber line ≤ 6)
 unfolding lineNumber
@@ -83,18 +81,6 @@ sound-record line = by (isRecord line)
     by : (a : Bool) → _≡_ {A = ℕ} (pick a (pick (sumOk line) (pick (typeOk line) (pick (shapeOk line) (pick (dataOk line) 0 6) 5) 4) 3) 2) 0 → a ≡ true
     by true e = refl
     by false e = absurd (unfold pick in omega arith)
-
-word-number-most : (words upper : ℕ) (line image : List ℕ) (j : ℕ) → (wordNumber words upper line image j ≡ 0 → ⊥)
-    → (7 ≤ wordNumber words upper line image j) × (wordNumber words upper line image j ≤ 9)
-unfolding wordNumber
-word-number-most words upper line image j =
-    by (programmable words (entryOfWord words upper line j)) (isWord (wordOf line j)) (eqb (getD image (entryOfWord words upper line j) notGiven) notGiven)
-  where
-    by : (a b c : Bool) → (_≡_ {A = ℕ} (pick a (pick b (pick c 0 9) 8) 7) 0 → ⊥) → (7 ≤ pick a (pick b (pick c 0 9) 8) 7) × (pick a (pick b (pick c 0 9) 8) 7 ≤ 9)
-    by true true true n = absurd (n (unfold pick in refl))
-    by true true false n = unfold pick in (omega arith, omega arith)
-    by true false c n = unfold pick in (omega arith, omega arith)
-    by false b c n = unfold pick in (omega arith, omega arith)
 
 -- ---- the word that is refused
 
@@ -148,16 +134,6 @@ module _ (words upper : ℕ) (line : List ℕ) where
           → (m : ℕ) × WordRefused words upper line image j (suc n) m
       by (no z) rest = (0, refused-here n j image z)
       by (yes z) rest = later z (rest (λ y. some (ap (λ r. r .number) (give-later n j image z n) ∙ y)))
-
-  -- words are refused with 7 to 9 alone
-  pub give-number : (n j : ℕ) (image : List ℕ) → (giveWords words upper line image j n .number ≡ 0 → ⊥)
-      → (7 ≤ giveWords words upper line image j n .number) × (giveWords words upper line image j n .number ≤ 9)
-  give-number n j image some = by (word-refused n j image some)
-    where
-      by : ((m : ℕ) × WordRefused words upper line image j n m) → (7 ≤ giveWords words upper line image j n .number) × (giveWords words upper line image j n .number ≤ 9)
-      by (m, t) =
-          let k = word-number-most words upper line (giveWords words upper line image j m .image) (j + m) (λ z. some (sym (t .refused) ∙ z)) in
-          (rw (← t .refused) (k .0), rw (← t .refused) (k .1))
 
 -- ---- a sound record
 
