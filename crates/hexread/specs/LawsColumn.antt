@@ -71,7 +71,7 @@ module _ (words : ℕ) (line : List ℕ) (r : Reading) where
       by true u e h k = absurd (unfold pick in omega arith)
       by false true e h k = absurd (unfold pick in omega arith)
       by false false (yes e) h k = (e, unfold pick in rw (eq-eqb (lineNumber line) 0 e) (record-words (rw (eq-eqb (lineNumber line) 0 e) at h)))
-      by false false (no e) h k = absurd (let m = line-number-most line e in let l : 7 ≤ lineNumber line = (unfold pick in rw (ne-eqb (lineNumber line) 0 e) at h) in omega (arith, m .1))
+      by false false (no e) h k = absurd (let m : lineNumber line ≤ 6 = line-number-most line in let l : 7 ≤ lineNumber line = (unfold pick in rw (ne-eqb (lineNumber line) 0 e) at h) in omega arith)
 
   low-byte : lineNumber line ≡ 0 → (m : ℕ) → m < countOf line / 2 → byteBy digitOf line (wordColumn m - 1) ≡ wordOf line m % 256
   unfolding wordOf byteAt wordColumn

@@ -121,7 +121,8 @@ pub record Sound (line bytes : List ℕ) : Type 0 where
   pub number : lineNumber line ≡ 0
   pub stored : (j : ℕ) → j < countOf line + 5 → getD bytes j 0 ≡ byteAt line j
 
-pick-zero : (b : Bool) (x k : ℕ) → (k ≡ 0 → ⊥) → pick b x k ≡ 0 → (b ≡ true) × (x ≡ 0)
+-- a number that is 0 passed the first test
+pub pick-zero : (b : Bool) (x k : ℕ) → (k ≡ 0 → ⊥) → pick b x k ≡ 0 → (b ≡ true) × (x ≡ 0)
 unfolding pick
 pick-zero true x k n e = (refl, e)
 pick-zero false x k n e = absurd (n e)

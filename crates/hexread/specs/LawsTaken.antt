@@ -14,6 +14,7 @@ use Rattle.hexread.specs.Line.{countOf, isRecord, sumOk, typeOk, shapeOk
 use Rattle.hexread.specs.Step.{wordOf, entryOfWord, wordNumber, Reading, giveWords, recordStep, lineStep}
 use Rattle.hexread.specs.Column.{badColumn, refusedWord, wordColumn, columnOf, lineColumn}
 use Rattle.hexread.specs.LawsLine.{ByteRead}
+use Rattle.hexread.specs.LawsDecode.{pick-zero}
 use Rattle.hexread.specs.LawsGive.{reading, gave, stopped}
 use Rattle.hexread.specs.LawsReader.{step-empty, step-after, step-bad, step-record, record-data}
 
@@ -58,29 +59,23 @@ module _ (number : ℕ) (line : List ℕ) (a b : ℕ) where
   pub no-word-high : 9 < number → columnOf number line a ≡ columnOf number line b
   no-word-high h = at-line-11 number line a (λ z. omega arith) (λ z. omega arith) h ∙ sym (at-line-11 number line b (λ z. omega arith) (λ z. omega arith) h)
 
--- ---- which numbers a line can have
+-- ---- what a line's own number tells
 
-pub line-number-most : (line : List ℕ) → (lineNumber line ≡ 0 → ⊥) → (2 ≤ lineNumber line) × (lineNumber line ≤ 6)
+pub line-number-most : (line : List ℕ) → lineNumber line ≤ 6
 unfolding lineNumber
 line-number-most line = by (isRecord line) (sumOk line) (typeOk line) (shapeOk line) (dataOk line)
   where
-    by : (a b c d e : Bool) → (_≡_ {A = ℕ} (pick a (pick b (pick c (pick d (pick e 0 6) 5) 4) 3) 2) 0 → ⊥)
-        → (2 ≤ pick a (pick b (pick c (pick d (pick e 0 6) 5) 4) 3) 2) × (pick a (pick b (pick c (pick d (pick e 0 6) 5) 4) 3) 2 ≤ 6)
-    by true true true true true n = absurd (n (unfold pick in refl))
-    by true true true true false n = unfold pick in (omega arith, omega arith)
-    by true true true false e n = unfold pick in (omega arith, omega arith)
-    by true true false d e n = unfold pick in (omega arith, omega arith)
-    by true false c d e n = unfold pick in (omega arith, omega arith)
-    by false b c d e n = unfold pick in (omega arith, omega arith)
+    by : (a b c d e : Bool) → pick a (pick b (pick c (pick d (pick e 0 6) 5) 4) 3) 2 ≤ 6
+    by true true true true true = unfold pick in omega arith
+    by true true true true false = unfold pick in omega arith
+    by true true true false e = unfold pick in omega arith
+    by true true false d e = unfold pick in omega arith
+    by true false c d e = unfold pick in omega arith
+    by false b c d e = unfold pick in omega arith
 
--- a sound line is a record
 pub sound-record : (line : List ℕ) → lineNumber line ≡ 0 → isRecord line ≡ true
 unfolding lineNumber
-sound-record line = by (isRecord line)
-  where
-    by : (a : Bool) → _≡_ {A = ℕ} (pick a (pick (sumOk line) (pick (typeOk line) (pick (shapeOk line) (pick (dataOk line) 0 6) 5) 4) 3) 2) 0 → a ≡ true
-    by true e = refl
-    by false e = absurd (unfold pick in omega arith)
+sound-record line e = pick-zero (isRecord line) _ 2 (λ k. omega arith) e .0
 
 -- ---- the word that is refused
 
@@ -176,7 +171,7 @@ module _ (words : ℕ) (line : List ℕ) (ended : Bool) (upper : ℕ) (image : L
     module _ (going : ended ≡ false) (number : ℕ) (n : number ≡ lineNumber line) where
       pub line-bad : (number ≡ 0 → ⊥) → LineTaken words line (reading ended upper image 0) (reading ended upper image number) 0
       line-bad z =
-          let m : lineNumber line ≤ 6 = line-number-most line (λ y. z (n ∙ y)) .1 in
+          let m : lineNumber line ≤ 6 = line-number-most line in
           column-by _ (step-bad words line ended upper image some going number n z) 0 (no-word-low number line _ _ (omega arith))
 
       pub line-record : number ≡ 0 → (after : Reading) (word : ℕ) → RecordTaken words line upper image after word → LineTaken words line (reading ended upper image 0) after word

@@ -60,13 +60,13 @@ cellsOf reading = reading ++ erased ∷ erased ∷ []
 unfoldable pub played : Device → (reading stream : List ℕ) → Run Target
 played d reading stream = ran d stream mostSteps (cellsOf reading) (replicate mostSteps 0)
 
--- the sheet after the run, or the refused step's number at its line
+-- the sheet after the run, or the refused step's number at its line; column 1, since the whole line is to blame
 unfoldable pub playedText : Device → Run Target → List ℕ
 playedText d r =
     unless (eqb (r .number) 0) (refusedText (r .number) (r .done + 1) 1)
     (sheetText d (take (d .words + readingTail) (r .target .cells)))
 
--- the board, then the printed stream, 34 at its line, then the run
+-- the board, then the printed stream, 34 at its line, of which the whole is to blame too, then the run
 unfoldable pub trialText : (table sheet stream : List ℕ) → List ℕ
 trialText table sheet stream =
     unless (eqb (boardNumber table sheet) 0) (refusedText (boardNumber table sheet) 0 0)
