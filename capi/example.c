@@ -2,20 +2,24 @@
 
      example TABLE SHEET HEX      as device.tab, board.txt and new.hex of the program `update`
 
-   Prints the number of steps and how many words of the model changed; or `refused`, the number, a line number and a column. */
+   Prints the number of steps and how many words of the model changed; or `refused`, the number, a line number and a column. It takes every
+   device and every text that the calls take, where that program has room for less. */
 
 #include <stdio.h>
 #include <string.h>
 
 #include "tickmallet.h"
 
-/* P and R of the largest device and the shortest rows: room for every record that a table can give */
-enum { P = TICKMALLET_MOST_WORDS, R = 8, MOST_TABLE = 4096, MOST_TEXT = 65536 };
+/* P and R of the largest device and the shortest rows: room for every record that a table can give. A sound table has 64 lines of 41 bytes
+   at most. */
+enum { P = TICKMALLET_MOST_WORDS, R = 8, MOST_TABLE = 64 * 41 };
 
-static uint8_t table[MOST_TABLE + 1], sheet[MOST_TEXT + 1], hex[MOST_TEXT + 1], stream[TICKMALLET_STREAM_BYTES(P, R)];
+/* Each text has room for one byte more than a sound one can have: a file that is too long is refused, and its beginning is not taken for it. */
+static uint8_t table[MOST_TABLE + 1], sheet[TICKMALLET_SHEET_BYTES(P) + 1], hex[TICKMALLET_MOST_HEX_READ + 1];
 static uint16_t reading[TICKMALLET_READING_WORDS(P)], image[TICKMALLET_IMAGE_WORDS(P)], cells[TICKMALLET_CELLS(P)];
+static uint8_t stream[TICKMALLET_STREAM_BYTES(P, R)];
 
-/* The bytes of a file; a file that can't be opened counts as empty, and one byte too many tells that it is too long. */
+/* The bytes of a file, as far as there is room; a file that can't be opened counts as empty. */
 static size_t load(const char *name, uint8_t *to, size_t room)
 {
     FILE *f = fopen(name, "rb");
@@ -57,7 +61,7 @@ int main(int argc, char **argv)
     tickmallet_device device;
     size_t name_at, name_len;
     uint8_t first = tickmallet_read_id(sheet, sheet_count, &id);
-    uint8_t found = table_count <= MOST_TABLE ? tickmallet_find_device(table, table_count, id, &device, &name_at, &name_len) : 15;
+    uint8_t found = tickmallet_find_device(table, table_count, id, &device, &name_at, &name_len);
     if (found == 15)
         return refused(15);
     if (first)
@@ -65,13 +69,19 @@ int main(int argc, char **argv)
     if (found)
         return refused(found);
 
+    /* never so with the P above; a program with a smaller one must ask, since the lists below have as many words as the record says */
+    if (device.words > P) {
+        fprintf(stderr, "%.*s: %d program words, and there is room for %d\n", (int)name_len, (const char *)table + name_at, device.words, P);
+        return 1;
+    }
+
     /* what the board holds, and what the file gives */
     size_t count = TICKMALLET_READING_WORDS(device.words);
-    uint8_t number = sheet_count <= MOST_TEXT ? tickmallet_read_sheet(&device, sheet, sheet_count, reading, count) : 14;
+    uint8_t number = tickmallet_read_sheet(&device, sheet, sheet_count, reading, count);
     if (number)
         return refused(number);
-    uint32_t line = 0, column = 0;
-    number = hex_count <= MOST_TEXT ? tickmallet_read_hex(&device, hex, hex_count, image, count, &line, &column) : 1;
+    uint32_t line, column;
+    number = tickmallet_read_hex(&device, hex, hex_count, image, count, &line, &column);
     if (number)
         return refused_at(number, line, column);
 

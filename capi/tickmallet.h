@@ -24,7 +24,7 @@
 #ifndef TICKMALLET_H
 #define TICKMALLET_H
 
-#define TICKMALLET_VERSION "0.2.0"
+#define TICKMALLET_VERSION "0.3.0"
 
 #include <stddef.h>
 #include <stdint.h>
@@ -35,7 +35,7 @@ extern "C" {
 
 /* A device: its ID word, program words P, row words R, and the masks of the two configuration words, which say what bits these have:
    no write changes another bit of them, an image has no say in it, and verify does not compare it. Bulk Erase sets all 14.
-   The rules, which every call that takes a record judges first (13): R is 8, 16 or 32; P is a multiple of R, from R to 8192; the ID and both
+   The rules, which every call that takes a record judges first (13): R is 8, 16 or 32; P is a multiple of R, from R to 32768; the ID and both
    masks are at most 3FFFh; mask1 has bit 7 set. */
 typedef struct {
     uint16_t id, words, row, mask1, mask2;
@@ -43,9 +43,11 @@ typedef struct {
 
 /* Sizes, for a record that keeps the rules: how long each list has to be, and a room that each output fits, so that 26 is not given. The
    outputs' sizes are proved; capi/README.md names each theorem. All are constant expressions where P and R are, so that they can be the
-   sizes of arrays. P and R are evaluated more than once. Room for every device is that of TICKMALLET_MOST_WORDS and R = 8. */
-#define TICKMALLET_MOST_WORDS 8192       /* P of the largest device */
-#define TICKMALLET_MOST_HEX_READ 131072  /* bytes of HEX text that read_hex takes */
+   sizes of arrays. P and R are evaluated more than once. Room for every device is that of TICKMALLET_MOST_WORDS and R = 8; a program that has
+   less asks the record for its words before it lends a list of so many. Both limits grew with 0.3.0 (8192 and 131072 before), so that a
+   program compiled with an older header has less. */
+#define TICKMALLET_MOST_WORDS 32768      /* P of the largest device */
+#define TICKMALLET_MOST_HEX_READ 524288  /* bytes of HEX text that read_hex takes */
 
 #define TICKMALLET_IMAGE_WORDS(P) ((size_t)(P) + 9)    /* entries of an image, just so many */
 #define TICKMALLET_READING_WORDS(P) ((size_t)(P) + 9)  /* words of a reading, just so many */
@@ -85,11 +87,12 @@ uint8_t tickmallet_write_sheet(const tickmallet_device *device, const uint16_t *
 
 /* Reads HEX text into an image, and stores the line of a refusal and the column in it (each from 1; both 0 where the refusal has none).
    13 and 12 (the image is not P+9 long) leave the image; every other refusal makes it all FFFFh.
-   1: more than 131072 bytes. Then the first bad line: 11: not empty and after the end record; 2: not a record; 3: wrong sum; 4: type not
+   1: more than 524288 bytes. Then the first bad line: 11: not empty and after the end record; 2: not a record; 3: wrong sum; 4: type not
    00, 01, 04; 5: type 01 or 04 with a wrong length or address; 6: data at an odd address or of odd length; then word by word 7: no
    program word, user ID or configuration word; 8: above 3FFFh; 9: given before. Last 10: no end record.
    The column of 2 is that of the first character that cannot stand there, or one past the end of a line that stops short; of 3 to 6 and 11
-   it is 1; of 7 to 9 that of the first digit of the word's low byte. A line's characters are counted without its LF and one CR before it. */
+   it is 1; of 7 to 9 that of the first digit of the word's low byte. A line's characters are counted without its LF and one CR before it.
+   No address wraps at 64 KiB: where P is 32768, one record can give word 7FFFh and words from 8000h on. */
 uint8_t tickmallet_read_hex(const tickmallet_device *device, const uint8_t *text, size_t text_count,
                             uint16_t *image, size_t image_count, uint32_t *line, uint32_t *column);
 

@@ -2,7 +2,7 @@
    The last line counts what was compared or asserted, one by one. */
 #include "agree.h"
 
-enum { SMALL = 20000, LARGE = 48, SOME = 5 };
+enum { SMALL = 20000, MIDDLE = 48, LARGE = 48, SOME = 5 };
 
 static struct board board;
 
@@ -14,18 +14,18 @@ static void agree_board(void)
     agree_judgements(&board);
 }
 
-/* The largest device: each call that has to do with a board's words takes it, some times at least. */
-static void agree_large(void)
+/* Larger boards: each call that has to do with a board's words takes them, some times at least. */
+static void agree_larger(void make(struct board *), int boards, const char *what)
 {
     unsigned before[CALLS];
     for (enum call call = 0; call < CALLS; call++)
         before[call] = zeros(call);
-    for (int i = 0; i < LARGE; i++) {
-        large_board(&board);
+    for (int i = 0; i < boards; i++) {
+        make(&board);
         agree_board();
     }
     for (enum call call = READ_ID; call < CALLS; call++)
-        holds(zeros(call) - before[call] >= SOME, "each call takes boards of the largest device");
+        holds(zeros(call) - before[call] >= SOME, what);
 }
 
 int main(void)
@@ -35,9 +35,12 @@ int main(void)
         agree_board();
         agree_tables();
     }
-    agree_large();
+    agree_decimals();
+    agree_larger(middle_board, MIDDLE, "each call takes boards of 8192 words and more");
+    agree_larger(large_board, LARGE, "each call takes boards of the largest device");
     agree_long_hex();
     agree_long_streams();
     agree_bounds();
+    agree_largest();
     return !all_hold();
 }

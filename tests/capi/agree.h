@@ -5,6 +5,7 @@
 #include "inputs.h"
 
 void agree_tables(void);
+void agree_decimals(void);
 void agree_sheets(const struct board *b);
 void agree_hex(const struct board *b);
 void agree_streams(const struct board *b);
@@ -16,5 +17,8 @@ void agree_long_streams(void);
 
 /* The sizes in tickmallet.h. */
 void agree_bounds(void);
+
+/* The largest parts, case by case. */
+void agree_largest(void);
 
 #endif

@@ -96,20 +96,23 @@ static void limits(void)
     size_t steps;
     holds(tickmallet_read_back(&d, reads, sizeof reads, &steps) == 0, "P may be TICKMALLET_MOST_WORDS");
     holds(tickmallet_read_back(&more, reads, sizeof reads, &steps) == 13, "P may not be more");
-    holds(TICKMALLET_MOST_STEPS(P, 8) == 18454 && sizeof stream == 55362 && sizeof reads == 49206, "streams of the largest device");
-    holds(sizeof sheet == 46135 && sizeof hex == 114844, "texts of the largest device");
+    holds(TICKMALLET_MOST_STEPS(P, 8) == 73750 && sizeof stream == 221250, "updates and fresh streams of the largest device");
+    holds(TICKMALLET_READ_BACK_STEPS(P) == 65554 && sizeof reads == 196662, "read-backs of the largest device");
+    holds(sizeof sheet == 184375 && sizeof hex == 458908 && sizeof hex <= TICKMALLET_MOST_HEX_READ, "texts of the largest device");
+    holds(TICKMALLET_MOST_STEPS(d.words, d.row) == 73750 && TICKMALLET_READ_BACK_BYTES(d.words) == 196662 && TICKMALLET_HEX_BYTES(d.words) == 458908,
+          "the same from the record's 16 bits");
 }
 
 void agree_bounds(void)
 {
-    static const tickmallet_device devices[8] = {
-        {0x3023, 8, 8, 0x3eff, 0x3ff3},  {0x3023, 16, 8, 0x3eff, 0x3ff3}, {0x3023, 16, 16, 0x3eff, 0x3ff3}, {0x3023, 32, 32, 0x3eff, 0x3ff3},
-        {0x3023, 96, 32, 0x3eff, 0x3ff3}, {0x3023, P, 8, 0x3eff, 0x3ff3},  {0x3023, P, 16, 0x3eff, 0x3ff3},  {0x3023, P, 32, 0x3eff, 0x3ff3}};
-    for (int i = 0; i < 8; i++) {
-        streams(&devices[i]);
-        sheets(&devices[i]);
-        hexes(&devices[i]);
-        lists(&devices[i]);
+    static const uint16_t sizes[12][2] = {
+        {8, 8}, {16, 8}, {16, 16}, {32, 32}, {96, 32}, {8192, 8}, {8200, 8}, {P / 2, 16}, {P - 32, 32}, {P, 8}, {P, 16}, {P, 32}}; /* P and R */
+    for (int i = 0; i < 12; i++) {
+        const tickmallet_device d = {0x3023, sizes[i][0], sizes[i][1], 0x3eff, 0x3ff3};
+        streams(&d);
+        sheets(&d);
+        hexes(&d);
+        lists(&d);
     }
     limits();
 }

@@ -63,14 +63,14 @@ static size_t put_sum(uint8_t *bytes, size_t n)
     return n + 1;
 }
 
-/* Data where it may lie under this upper half, near the edges too. */
+/* Data where it may lie under this upper half, near the edges too: the end of 64 KiB, the end of program space, and that of 8192 words. */
 static size_t data_bytes(uint8_t *bytes, size_t p, unsigned upper)
 {
-    static const uint16_t edges[5] = {0xfffe, 0x3ffe, 0x4000, 0x8000, 1};
+    const unsigned edges[8] = {0xfffe, 0xfff6, 2 * (unsigned)p - 2, 2 * (unsigned)p, 0x3ffe, 0x4000, 0x8000, 1};
     size_t words = below(16) ? below(6) : below(128), n = 4;
     unsigned address = 2 * below(upper == 1 ? 12 : (uint32_t)p + 2);
     if (!below(20))
-        address = edges[below(5)];
+        address = edges[below(8)];
     bytes[0] = (uint8_t)(2 * words), bytes[1] = (uint8_t)(address >> 8), bytes[2] = (uint8_t)address, bytes[3] = 0;
     for (size_t i = 0; i < words; i++) {
         unsigned w = below(80) ? word() : 0x4000 + below(0xc000);
@@ -194,13 +194,56 @@ static void every_word(void)
     }
 }
 
-/* The longest text that is taken, and one byte more; a refusal in its last line; the longest record, and a line that is longer. */
+static size_t put_upper(uint8_t *to, unsigned upper)
+{
+    const uint8_t bytes[7] = {2, 0, 0, 4, (uint8_t)(upper >> 8), (uint8_t)upper, (uint8_t)-(6 + (upper >> 8) + upper)};
+    return put_line(to, bytes, 7);
+}
+
+static size_t put_end(uint8_t *to)
+{
+    memcpy(to, ":00000001FF\n", 12);
+    return 12;
+}
+
+/* Records that begin below 64 KiB, at each place from which they can go on past it, with no word past it up to five: the fifth is 8004h.
+   Under the largest device those of up to four are sound, under the others the first words that program space lacks refuse them. */
+static void across_64k(const tickmallet_device *d)
+{
+    for (unsigned under = 1; under <= 127; under++)
+        for (unsigned past = 0; past <= 5 && under + past <= 127; past++) {
+            size_t n = put_words(text, 0x8000 - under, under + past, 0, 0x3fff);
+            read_hex(d, text, n + put_end(text + n), d->words + 9u);
+        }
+}
+
+/* The longest record that goes past 64 KiB and is sound, refused at each of its words: with 8, and with 9 by a record before it. */
+static void every_word_across(void)
+{
+    static const tickmallet_device d = {0x2a01, 32768, 32, 0x3eff, 0x3ff3};
+    enum { WORDS = 127, UNDER = WORDS - 4, FIRST = 0x8000 - UNDER };
+    for (unsigned place = 0; place < WORDS; place++) {
+        read_hex(&d, text, put_words(text, FIRST, WORDS, place, 0x4000), 32777);
+        size_t n = put_upper(text, place >= UNDER);
+        n += put_words(text + n, place >= UNDER ? place - UNDER : FIRST + place, 1, 0, 0x3fff);
+        n += put_upper(text + n, 0);
+        read_hex(&d, text, n + put_words(text + n, FIRST, WORDS, place, 0x3fff), 32777);
+    }
+}
+
+/* The longest text that is taken, shorter ones and one byte more; a refusal in its last line; the longest record, a line that is longer, and
+   records that go past 64 KiB. */
 void agree_long_hex(void)
 {
     static const tickmallet_device d = {0x2a00, 16, 8, 0x3eff, 0x3ff3};
+    static const tickmallet_device larger[4] = {{0x2a01, 32768, 32, 0x3eff, 0x3ff3}, {0x2a01, 32760, 8, 0x3eff, 0x3ff3},
+                                                {0x2a01, 32736, 32, 0x3eff, 0x3ff3}, {0x2a01, 8192, 8, 0x3eff, 0x3ff3}};
+    static const size_t shorter[5] = {65536, 65537, 131072, 131073, TICKMALLET_MOST_HEX_READ - 1};
     const size_t most = TICKMALLET_MOST_HEX_READ;
     memset(text, '\n', sizeof text);
     memcpy(text + most - 12, ":00000001FF", 11);
+    for (int i = 0; i < 5; i++)
+        read_hex(&d, text, shorter[i], 25);
     for (int i = 0; i < 4; i++)
         read_hex(&d, text, most, 25);
     for (int i = 0; i < 400; i++)
@@ -216,6 +259,9 @@ void agree_long_hex(void)
     read_hex(&d, text, most, 25);
     every_length(&d);
     every_word();
+    for (int i = 0; i < 4; i++)
+        across_64k(&larger[i]);
+    every_word_across();
     printf("different columns by number 2:%u 7:%u 8:%u 9:%u\n", columns_of(2), columns_of(7), columns_of(8), columns_of(9));
     holds(columns_of(2) >= 500 && columns_of(7) >= 100 && columns_of(8) >= 100 && columns_of(9) >= 100, "2 and 7 to 9 come up at nearly every column");
 }

@@ -73,17 +73,17 @@ static void run_any(const struct board *b)
     run(b, n, below(4) ? n : below((uint32_t)n + 1), below(8) ? b->words + 9 : below(4));
 }
 
-/* The counter goes round in each space: 7FFFh to 0000h, FFFFh to 8000h. */
+/* The counter goes round in each space: 7FFFh to 0000h, FFFFh to 8000h. Of the largest device 7FFFh is a program word. */
 void agree_long_streams(void)
 {
     static struct board b;
-    for (int i = 0; i < 24; i++) {
-        if (i % 4)
+    for (int i = 0; i < 60; i++) {
+        if (i % 3)
             small_board(&b);
         else
             large_board(&b);
         size_t n = put(0, i % 2 ? 0x00 : 0x16, i % 2 ? 2u * word() : 0);
-        n = any_steps(put_walk(n, 0x7ffe + below(12)), 8);
+        n = any_steps(put_walk(n, 0x7ffe + below(i % 3 ? 12 : 3)), 8);
         run(&b, n, n, 8);
     }
 }

@@ -83,15 +83,20 @@ static void damage_word(char *field)
     set(field, spelt[below(12)]);
 }
 
-/* 2^16, 2^32 and 2^64 more than 8192, 32 and 8 would come back to these in a machine word that is too short. */
+/* Decimals spelt wrongly, numbers about the limits, and 2^15, 2^16, 2^32 and 2^64 more than 8, 32, 8192 and 32768: these would come back to
+   the smaller number in a machine word that is too short. */
+static const char *const decimals[] = {
+    "0", "00", "8", "08", "008", "", " 8", "8 ", "+8", "-8", "8.", "0x8", "032768", "32768 ", "12", "24", "64",
+    "8192", "8193", "8200", "8224", "32736", "32760", "32767", "32768", "32769", "32784", "40000", "65528", "65535",
+    "32776", "32800", "40960", "65536", "65544", "65568", "73728", "98304", "4294967304", "4294967328", "4294975488", "4295000064",
+    "18446744073709551624", "18446744073709551648", "18446744073709559808", "18446744073709584384", "340282366920938463463374607431"};
+enum { DECIMALS = sizeof decimals / sizeof *decimals };
+
 static void damage_decimal(char *field)
 {
-    static const char *const spelt[22] = {
-        "0", "00", "8", "08", "008", "", " 8", "8 ", "+8", "-8", "8.", "0x8", "12", "24", "64", "8192", "8193", "8224", "65544",
-        "4294967304", "18446744073709551624", "340282366920938463463374607431"};
     char text[32];
     if (below(4)) {
-        set(field, spelt[below(22)]);
+        set(field, decimals[below(DECIMALS)]);
     } else {
         set(text, field);
         snprintf(field, 64, "%s%s", below(2) ? "0" : "1844674407370955", text);
@@ -190,4 +195,23 @@ void agree_tables(void)
         n = damage_text(n);
     find(n, id);
     find(n, (uint16_t)(below(2) ? id ^ (0x4000 << below(2)) : word()));
+}
+
+/* Each of the decimals as P under each R, and as R under the largest P. */
+void agree_decimals(void)
+{
+    static const char *const rows[3] = {"8", "16", "32"};
+    const uint16_t id = 0x2a01;
+    line_count = 1;
+    for (size_t i = 0; i < DECIMALS; i++) {
+        any_line(&lines[0], id);
+        set(lines[0].words, decimals[i]);
+        for (size_t k = 0; k < 3; k++) {
+            set(lines[0].row, rows[k]);
+            find(put_table(), id);
+        }
+        set(lines[0].words, "32768");
+        set(lines[0].row, decimals[i]);
+        find(put_table(), id);
+    }
 }

@@ -37,14 +37,16 @@ static void any_masks(tickmallet_device *d)
     d->mask1 |= 0x80;
 }
 
-/* Breaks one rule of a record, or hits a number beside it that keeps them all. */
+/* Breaks one rule of a record, or hits a number beside it that keeps them all. The words above 32768 are multiples of 8, two of them of 32,
+   and without their highest bit they would keep the rules; only 65535 breaks two. */
 static void damage(tickmallet_device *d)
 {
-    static const uint16_t rows[12] = {0, 1, 4, 7, 9, 12, 15, 24, 31, 33, 64, 256}, words[6] = {0, 4, 8200, 8224, 16384, 65535};
+    static const uint16_t rows[12] = {0, 1, 4, 7, 9, 12, 15, 24, 31, 33, 64, 256};
+    static const uint16_t words[14] = {0, 4, 8192, 8200, 8224, 16384, 32736, 32760, 32768, 32776, 32800, 40000, 65528, 65535};
     switch (below(8)) {
     case 0: d->row = rows[below(12)]; break;
     case 1: d->row = (uint16_t)(8u << below(3)); break;
-    case 2: d->words = words[below(6)]; break;
+    case 2: d->words = words[below(14)]; break;
     case 3: d->words = (uint16_t)(d->words - 8 + below(17)); break;
     case 4: d->id |= (uint16_t)(0x4000 << below(2)); break;
     case 5: d->mask1 ^= 0x80; break;
@@ -98,6 +100,15 @@ void small_board(struct board *b)
         {0x0000, 8, 8, 0x3fff, 0x0000},  {0x3fff, 16, 16, 0x3eff, 0x3ff3}, {0x1abc, 24, 8, 0x2080, 0x1001},
         {0x00ff, 96, 32, 0x3eff, 0x3ff3}, {0x2b01, 48, 16, 0x3eff, 0x3ff3}, {0x2a00, 64, 32, 0x3eff, 0x3ff3}};
     fill_board(b, &sound[below(9)]);
+}
+
+/* 8192 words, which the project's programs take, a row more, which they do not, a row less than the most, half of it, or any number between. */
+void middle_board(struct board *b)
+{
+    const unsigned least = 8192, most = TICKMALLET_MOST_WORDS, row = 8u << below(3);
+    const unsigned words[5] = {least, least + row, most - row, least + row * below((most - least) / row), most / 2};
+    tickmallet_device sound = {0x2a01, (uint16_t)words[below(5)], (uint16_t)row, 0x3eff, 0x3ff3};
+    fill_board(b, &sound);
 }
 
 void large_board(struct board *b)

@@ -10,8 +10,9 @@ struct board {
     uint16_t image[MOST_LIST], reading[MOST_LIST]; /* the reading with its two calibration words */
 };
 
-/* A board of at most 96 program words, or one of 8192, with any masks; one record in twelve breaks a rule. */
+/* A board of at most 96 program words, one of 8192 up to the most, or one of the most, with any masks; one record in twelve is damaged. */
 void small_board(struct board *b);
+void middle_board(struct board *b);
 void large_board(struct board *b);
 
 /* Other spare bits in the configuration words of a list of the board. */

@@ -10,7 +10,7 @@ static inline int device_ok(const tickmallet_device *d)
 {
     if (d->row != 8 && d->row != 16 && d->row != 32)
         return 0;
-    if (d->words < d->row || d->words > 8192 || d->words % d->row)
+    if (d->words < d->row || d->words > 32768 || d->words % d->row)
         return 0;
     return d->id < LIMIT && d->mask1 < LIMIT && d->mask2 < LIMIT && (d->mask1 & CP);
 }

@@ -132,7 +132,7 @@ uint8_t plain_read_hex(const tickmallet_device *device, const uint8_t *text, siz
     if (image_count != device->words + 9u)
         return 12;
     clear(image, image_count);
-    if (text_count > 131072)
+    if (text_count > 524288)
         return 1;
     struct reader r = {device->words, image, 0, 0, 0};
     uint32_t number_of_line = 1;

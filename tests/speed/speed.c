@@ -11,10 +11,10 @@
 #include "random.h"
 
 enum {
-    P = TICKMALLET_MOST_WORDS,
+    P = 8192, /* of every job, however large a device may be, so that a table can be held against an older one */
     COUNT = TICKMALLET_READING_WORDS(P),
     CELLS = TICKMALLET_CELLS(P),
-    TEXT = TICKMALLET_MOST_HEX_READ,
+    TEXT = 16 * P, /* room for HEX text */
     STREAM = TICKMALLET_STREAM_BYTES(P, 8),
     PROVED = 0,
     PLAIN = 1,

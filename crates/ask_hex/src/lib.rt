@@ -4,6 +4,7 @@ use ask::fields::NOWHERE;
 use ask::name;
 use ask::name::UNKNOWN;
 use ask::put;
+use ask::room;
 use hexread::ReadHex;
 use lines::NextLine;
 
@@ -21,16 +22,18 @@ pub fn answer(
         name,
     );
     match which {
-        0 => read_hex(line, at, a, w, out),
-        1 => write_hex(line, at, a, w, out),
+        0 => read_hex(line, at, w, out),
+        1 => write_hex(line, at, w, out),
         2..=3 => ask_line(which, line, at, a, out),
         _ => UNKNOWN,
     }
 }
 
-fn read_hex(line: &[u8], at: usize, a: &mut [u8], w: &mut [u16], out: &mut [u8]) -> usize {
+// A text may be longer than other bytes, and has room of its own.
+fn read_hex(line: &[u8], at: usize, w: &mut [u16], out: &mut [u8]) -> usize {
+    let mut hex = room::for_hex();
     let d = fields::device(line, at);
-    let text = fields::bytes(line, d.at, a);
+    let text = fields::bytes(line, d.at, &mut hex);
     let image = fields::words(line, text.at, w);
     if image.at != line.len() {
         return NOWHERE;
@@ -38,7 +41,7 @@ fn read_hex(line: &[u8], at: usize, a: &mut [u8], w: &mut [u16], out: &mut [u8])
     let n = text.count;
     let m = image.count;
     let part = &mut w[..m];
-    let read = hexread::read_hex(d.device, &a[..n], part);
+    let read = hexread::read_hex(d.device, &hex[..n], part);
     put_read(out, at, read, part)
 }
 
@@ -49,16 +52,17 @@ fn put_read(out: &mut [u8], at: usize, read: ReadHex, image: &[u16]) -> usize {
     put::words(out, next, image)
 }
 
-fn write_hex(line: &[u8], at: usize, a: &mut [u8], w: &mut [u16], out: &mut [u8]) -> usize {
+fn write_hex(line: &[u8], at: usize, w: &mut [u16], out: &mut [u8]) -> usize {
+    let mut hex = room::for_hex();
     let d = fields::device(line, at);
     let image = fields::words(line, d.at, w);
-    let text = fields::bytes(line, image.at, a);
+    let text = fields::bytes(line, image.at, &mut hex);
     if text.at != line.len() {
         return NOWHERE;
     }
     let n = image.count;
     let m = text.count;
-    let part = &mut a[..m];
+    let part = &mut hex[..m];
     let written = hexwrite::write_hex(d.device, &w[..n], part);
     let next = put::two(out, at, written.number as u64, written.length as u64);
     put::bytes(out, next, part)

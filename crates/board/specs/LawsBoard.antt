@@ -13,17 +13,17 @@ use borrow.Author.Tests.{eq-eqb, ne-eqb}
 use Rattle.words.specs.Choice.{pick}
 use Rattle.words.specs.LawsChoice.{pick-true, pick-false}
 use Rattle.device.specs.declared.Device.{Device}
-use Rattle.device.specs.Record.{mostWords, deviceOk}
+use Rattle.device.specs.Record.{mostWords, deviceUpTo, deviceOk}
 use Rattle.device.specs.Memory.{readingTail, readingOk}
-use Rattle.device.specs.LawsRecord.{rules}
+use Rattle.device.specs.LawsRecord.{rules-up-to}
 use Rattle.sheet.specs.Sheet.{sheetOk, wordsIn, readNumber, readBuffer}
 use Rattle.sheet.specs.LawsSheet.{length-words, read-sound}
-use Rattle.board.specs.Open.{recordOf, openNumber, boardNumber, boardReading, openedReading}
-use Rattle.board.specs.LawsOpen.{opened-sound, read-number, sheet-words}
+use Rattle.board.specs.Open.{mostProgram, recordOf, openNumber, boardNumber, boardReading, openedReading}
+use Rattle.board.specs.LawsOpen.{opened-sound, opened-served, read-number, sheet-words}
 
--- the most words that a reading has
+-- the most words that the reading of a board has
 abbrev pub mostReading : ℕ
-mostReading = mostWords + readingTail
+mostReading = mostProgram + readingTail
 
 module _ (table sheet : List ℕ) where
   -- ---- the number
@@ -46,6 +46,9 @@ module _ (table sheet : List ℕ) where
 
   pub board-sound : boardNumber table sheet ≡ 0 → deviceOk (recordOf table sheet) ≡ true
   board-sound z = opened-sound table sheet (record-there z)
+
+  pub board-served : boardNumber table sheet ≡ 0 → deviceUpTo mostProgram (recordOf table sheet) ≡ true
+  board-served z = opened-served table sheet (record-there z)
 
   -- and its sheet is a sheet
   sheet-there : boardNumber table sheet ≡ 0 → sheetOk (recordOf table sheet) sheet ≡ true
@@ -70,7 +73,7 @@ module _ (table sheet : List ℕ) where
     keeps = ap deviceOk is ∙ opened-sound table sheet z
 
     pub read-room : d .words + readingTail ≤ length before
-    read-room = let most : d .words ≤ mostWords = rules d keeps .most in omega arith
+    read-room = let most : d .words ≤ mostProgram = rules-up-to mostProgram d (ap (deviceUpTo mostProgram) is ∙ opened-served table sheet z) .most in omega arith
 
     front-long : length (take (d .words + readingTail) before) ≡ d .words + readingTail
     front-long = length-take-le (d .words + readingTail) before read-room
@@ -108,7 +111,8 @@ module _ (table sheet : List ℕ) where
 pub record Board (table sheet : List ℕ) (d : Device) (reading : List ℕ) : Type 0 where
   pub record-is : d ≡ recordOf table sheet
   pub sound : deviceOk d ≡ true
-  pub most : d .words ≤ mostWords
+  pub served : deviceUpTo mostProgram d ≡ true
+  pub most : d .words ≤ mostProgram
   pub within : d .words + readingTail ≤ length reading
   pub long : length (take (d .words + readingTail) reading) ≡ d .words + readingTail
   pub front : take (d .words + readingTail) reading ≡ boardReading table sheet
@@ -123,7 +127,8 @@ module _ (table sheet : List ℕ) (number : ℕ) (e : number ≡ boardNumber tab
     board-in : Board table sheet d reading
     board-in = record {
       record-is = is;
-      sound = keeps-rules;
+      sound = ap deviceOk is ∙ board-sound table sheet zero-is;
+      served = serves;
       most = few;
       within = room;
       long = length-take-le (d .words + readingTail) reading room;
@@ -131,11 +136,11 @@ module _ (table sheet : List ℕ) (number : ℕ) (e : number ≡ boardNumber tab
       good = ap (readingOk (d .words)) same ∙ words-good;
     }
       where
-        keeps-rules : deviceOk d ≡ true
-        keeps-rules = ap deviceOk is ∙ board-sound table sheet zero-is
+        serves : deviceUpTo mostProgram d ≡ true
+        serves = ap (deviceUpTo mostProgram) is ∙ board-served table sheet zero-is
 
-        few : d .words ≤ mostWords
-        few = rules d keeps-rules .most
+        few : d .words ≤ mostProgram
+        few = rules-up-to mostProgram d serves .most
 
         stored : reading ≡ sets before 0 (boardReading table sheet)
         stored = f ∙ (unfold openedReading in pick-true _ _ _ (eq-eqb (boardNumber table sheet) 0 zero-is))
@@ -179,7 +184,7 @@ board-opened table sheet number e z d is reading f = board-in table sheet number
 -- another local buffer of the most words has room for a reading too
 module _ (table sheet : List ℕ) (d : Device) (reading : List ℕ) (b : Board table sheet d reading) (v : ℕ) where
   pub other-room : d .words + readingTail ≤ length (replicate mostReading v)
-  other-room = let few : d .words ≤ mostWords = b .most in rw (length-replicate {A = ℕ} mostReading v) (omega arith)
+  other-room = let few : d .words ≤ mostProgram = b .most in rw (length-replicate {A = ℕ} mostReading v) (omega arith)
 
   pub other-long : length (take (d .words + readingTail) (replicate mostReading v)) ≡ d .words + readingTail
   other-long = length-take-le (d .words + readingTail) (replicate mostReading v) other-room

@@ -1,24 +1,29 @@
--- A board's table and sheet, opened: 15, 14 for the sheet's first line, 16, 14 for the rest ('Refusal numbers', the programs).
+-- A board's table and sheet, opened: 15, 14 for the sheet's first line, 16, 17, 14 for the rest ('Refusal numbers', the programs; #105).
 use Prim.Native.Nat.{ℕ}
 use mathlib.Core.List.{List}
-use lib.Dec.{eqb}
+use lib.Dec.{leb, eqb}
 use lib.Seq.{sets}
 use Rattle.words.specs.Choice.{pick, unless}
 use Rattle.device.specs.declared.Device.{Device}
 use Rattle.table.specs.Table.{tableOk, tableLines, hasId, foundIn}
 use Rattle.sheet.specs.Sheet.{firstLine, sheetOk, wordsIn}
 
+-- the most program words of a board that the programs serve
+abbrev pub mostProgram : ℕ
+mostProgram = 8192
+
 -- the record that the sheet's first line names
 unfoldable pub recordOf : (table sheet : List ℕ) → Device
 recordOf table sheet = foundIn table (firstLine sheet .id) .device
 
--- 15, 14 for the first line, 16
+-- 15, 14 for the first line, 16, 17
 unfoldable pub openNumber : (table sheet : List ℕ) → ℕ
 openNumber table sheet =
     unless (tableOk table) 15
     (unless (eqb (firstLine sheet .number) 0) 14
     (unless (hasId (firstLine sheet .id) (tableLines table)) 16
-    0))
+    (unless (leb (recordOf table sheet .words) mostProgram) 17
+    0)))
 
 -- and then 14 for the rest
 unfoldable pub boardNumber : (table sheet : List ℕ) → ℕ

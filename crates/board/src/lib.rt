@@ -1,6 +1,5 @@
 // A board, opened: the record that the table has for the ID on the sheet's first line, and the sheet's reading under it. No public call here has a `requires`.
 use device::Device;
-use device::MOST_WORDS;
 use device::READING_TAIL;
 ghost use mathlib.Core.Path.{_≡_};
 ghost use mathlib.Core.List.{_++_};
@@ -10,10 +9,13 @@ ghost use Rattle.device.specs.Memory.{readingTail};
 ghost use Rattle.sheet.specs.Sheet.{readNumber, readBuffer};
 ghost use Rattle.board.specs.Open.{recordOf, openNumber, boardNumber, openedReading};
 
-// The most words that a reading has.
-pub const MOST_READING: usize = (MOST_WORDS as usize) + READING_TAIL;
+// The most program words of a board that the programs serve: their buffers have room for no more.
+pub const MOST_PROGRAM: u16 = 8192;
 
-// 15, 14 or 16, or 0 and the record.
+// The most words that the reading of such a board has.
+pub const MOST_READING: usize = (MOST_PROGRAM as usize) + READING_TAIL;
+
+// 15, 14, 16 or 17, or 0 and the record.
 pub struct Opened {
     pub number: u8,
     pub device: Device,
@@ -32,10 +34,13 @@ pub fn open_record(table: &[u8], sheet: &[u8]) -> Opened
     if first.number != 0 {
         return Opened { number: 14, device };
     }
-    Opened {
-        number: found.number,
-        device,
+    if found.number != 0 {
+        return Opened { number: 16, device };
     }
+    if MOST_PROGRAM < device.words {
+        return Opened { number: 17, device };
+    }
+    Opened { number: 0, device }
 }
 
 // Finds the record and stores the sheet's reading under it; a board that is refused leaves the buffer.

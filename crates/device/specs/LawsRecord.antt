@@ -13,18 +13,21 @@ use Rattle.words.specs.Word.{isWord, bit}
 use Rattle.words.specs.LawsChoice.{first-holds, second-holds, decided, pick-true, pick-false, true-not-false}
 use Rattle.words.specs.LawsWord.{is-word, word-lt}
 use Rattle.device.specs.declared.Device.{Device}
-use Rattle.device.specs.Record.{mostWords, rowOk, wordsOk, deviceOk, recordNumber}
+use Rattle.device.specs.Record.{mostWords, rowOk, wordsUpTo, deviceUpTo, deviceOk, recordNumber}
 
--- the rules of a record, one by one
-pub record Rules (d : Device) : Type 0 where
+-- the rules of a record with so many program words at most, one by one
+pub record RulesUpTo (top : ℕ) (d : Device) : Type 0 where
   pub row-is : rowOk (d .row) ≡ true
   pub multiple : d .words % d .row ≡ 0
   pub least : d .row ≤ d .words
-  pub most : d .words ≤ mostWords
+  pub most : d .words ≤ top
   pub id-word : d .id < 0x4000
   pub mask1-word : d .mask1 < 0x4000
   pub mask2-word : d .mask2 < 0x4000
   pub cp-bit : bit (d .mask1) 7 ≡ 1
+
+abbrev pub Rules : Device → Type 0
+Rules d = RulesUpTo mostWords d
 
 -- what R of 8, 16 or 32 comes to in numbers
 pub record Row (row : ℕ) : Type 0 where
@@ -58,28 +61,28 @@ row-mask row e n =
 
 -- ---- the rules and the test
 
-module _ (d : Device) where
-  pub keeps : Rules d → deviceOk d ≡ true
-  unfolding deviceOk wordsOk
-  keeps r =
-      let v : Rules d = r in
+module _ (top : ℕ) (d : Device) where
+  pub keeps-up-to : RulesUpTo top d → deviceUpTo top d ≡ true
+  unfolding deviceUpTo wordsUpTo
+  keeps-up-to r =
+      let v : RulesUpTo top d = r in
       rw (
         v .row-is,
         eq-eqb (d .words % d .row) 0 (v .multiple),
         le-leb (d .row) (d .words) (v .least),
-        le-leb (d .words) mostWords (v .most),
+        le-leb (d .words) top (v .most),
         is-word (d .id) (v .id-word),
         is-word (d .mask1) (v .mask1-word),
         is-word (d .mask2) (v .mask2-word),
         eq-eqb (bit (d .mask1) 7) 1 (v .cp-bit),
       )
 
-  pub rules : deviceOk d ≡ true → Rules d
-  unfolding deviceOk wordsOk
-  rules e =
+  pub rules-up-to : deviceUpTo top d ≡ true → RulesUpTo top d
+  unfolding deviceUpTo wordsUpTo
+  rules-up-to e =
       let multiple : Bool = eqb (d .words % d .row) 0 in
       let least : Bool = leb (d .row) (d .words) in
-      let most : Bool = leb (d .words) mostWords in
+      let most : Bool = leb (d .words) top in
       let upTo2 : Bool = rowOk (d .row) && (multiple && least && most) in
       let upTo3 : Bool = upTo2 && isWord (d .id) in
       let upTo4 : Bool = upTo3 && isWord (d .mask1) in
@@ -94,18 +97,47 @@ module _ (d : Device) where
         row-is = first-holds (rowOk (d .row)) (multiple && least && most) e2;
         multiple = eqb-true (d .words % d .row) 0 (first-holds multiple least w2);
         least = leb-true (d .row) (d .words) (second-holds multiple least w2);
-        most = leb-true (d .words) mostWords (second-holds (multiple && least) most w);
+        most = leb-true (d .words) top (second-holds (multiple && least) most w);
         id-word = word-lt (d .id) (second-holds upTo2 (isWord (d .id)) e3);
         mask1-word = word-lt (d .mask1) (second-holds upTo3 (isWord (d .mask1)) e4);
         mask2-word = word-lt (d .mask2) (second-holds upTo4 (isWord (d .mask2)) e5);
         cp-bit = eqb-true (bit (d .mask1) 7) 1 (second-holds upTo5 (eqb (bit (d .mask1) 7) 1) e);
       }
 
+-- the limit has a say in the number of program words alone
+pub other-limit : (a b : ℕ) (d : Device) → deviceUpTo a d ≡ true → d .words ≤ b → deviceUpTo b d ≡ true
+other-limit a b d e h =
+    let r : RulesUpTo a d = rules-up-to a d e in
+    keeps-up-to b d
+    (record {
+      row-is = r .row-is;
+      multiple = r .multiple;
+      least = r .least;
+      most = h;
+      id-word = r .id-word;
+      mask1-word = r .mask1-word;
+      mask2-word = r .mask2-word;
+      cp-bit = r .cp-bit;
+    })
+
+-- a record that keeps the rules up to a limit keeps them up to any larger one
+pub more-words : (a b : ℕ) → a ≤ b → (d : Device) → deviceUpTo a d ≡ true → deviceUpTo b d ≡ true
+more-words a b h d e = other-limit a b d e (let r : RulesUpTo a d = rules-up-to a d e in omega arith)
+
+module _ (d : Device) where
+  pub keeps : Rules d → deviceOk d ≡ true
+  unfolding deviceOk
+  keeps r = keeps-up-to mostWords d r
+
+  pub rules : deviceOk d ≡ true → Rules d
+  unfolding deviceOk
+  rules e = rules-up-to mostWords d e
+
   pub breaks : (Rules d → ⊥) → deviceOk d ≡ false
   breaks h = ⊎-elim (λ e. absurd (h (rules e))) (λ e. e) (decided (deviceOk d))
 
-  pub words-of : Rules d → wordsOk (d .words) (d .row) ≡ true
-  unfolding wordsOk
+  pub words-of : Rules d → wordsUpTo mostWords (d .words) (d .row) ≡ true
+  unfolding wordsUpTo
   words-of r =
       let v : Rules d = r in
       rw (eq-eqb (d .words % d .row) 0 (v .multiple), le-leb (d .row) (d .words) (v .least), le-leb (d .words) mostWords (v .most))
@@ -125,14 +157,14 @@ module _ (d : Device) where
   broken-of-13 e r = let z : _≡_ {A = ℕ} 0 13 = judged-good r ∙ e in omega arith
 
   -- the tests of the code, one by one
-  pub judged-all : rowOk (d .row) ≡ true → wordsOk (d .words) (d .row) ≡ true → d .id < 0x4000 → d .mask1 < 0x4000 → d .mask2 < 0x4000 → bit (d .mask1) 7 ≡ 1 → 0 ≡ recordNumber d
-  unfolding recordNumber deviceOk pick
+  pub judged-all : rowOk (d .row) ≡ true → wordsUpTo mostWords (d .words) (d .row) ≡ true → d .id < 0x4000 → d .mask1 < 0x4000 → d .mask2 < 0x4000 → bit (d .mask1) 7 ≡ 1 → 0 ≡ recordNumber d
+  unfolding recordNumber deviceOk deviceUpTo pick
   judged-all r w i m n b = rw (r, w, is-word (d .id) i, is-word (d .mask1) m, is-word (d .mask2) n, eq-eqb (bit (d .mask1) 7) 1 b)
 
   pub judged-row : rowOk (d .row) ≡ false → 13 ≡ recordNumber d
   judged-row f = judged-bad (λ r. true-not-false (r .row-is) f)
 
-  pub judged-words : wordsOk (d .words) (d .row) ≡ false → 13 ≡ recordNumber d
+  pub judged-words : wordsUpTo mostWords (d .words) (d .row) ≡ false → 13 ≡ recordNumber d
   judged-words f = judged-bad (λ r. true-not-false (words-of r) f)
 
   -- an answer of 0 tells that the record keeps the rules, any other that it breaks them

@@ -8,25 +8,29 @@ use Rattle.device.specs.declared.Device.{Device}
 
 -- the most program words that a device may have
 abbrev pub mostWords : ℕ
-mostWords = 8192
+mostWords = 32768
 
 -- R is 8, 16 or 32
 unfoldable pub rowOk : ℕ → Bool
 rowOk row = eqb row 8 || eqb row 16 || eqb row 32
 
 -- P is a multiple of R, from R to the most
-unfoldable pub wordsOk : (words row : ℕ) → Bool
-wordsOk words row = eqb (words % row) 0 && leb row words && leb words mostWords
+unfoldable pub wordsUpTo : (most words row : ℕ) → Bool
+wordsUpTo most words row = eqb (words % row) 0 && leb row words && leb words most
 
--- ID and masks have 14 bits, and mask 1 has bit 7
-unfoldable pub deviceOk : Device → Bool
-deviceOk d =
+-- a record with so many program words at most: ID and masks have 14 bits, and mask 1 has bit 7
+unfoldable pub deviceUpTo : (most : ℕ) → Device → Bool
+deviceUpTo most d =
     rowOk (d .row)
-    && wordsOk (d .words) (d .row)
+    && wordsUpTo most (d .words) (d .row)
     && isWord (d .id)
     && isWord (d .mask1)
     && isWord (d .mask2)
     && eqb (bit (d .mask1) 7) 1
+
+-- a record that keeps the rules
+unfoldable pub deviceOk : Device → Bool
+deviceOk d = deviceUpTo mostWords d
 
 -- a board's ID word fits the record
 unfoldable pub idFits : Device → ℕ → Bool

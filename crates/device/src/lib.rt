@@ -21,7 +21,7 @@ pub struct Device {
 }
 
 // The most program words that a device may have.
-pub const MOST_WORDS: u16 = 8192;
+pub const MOST_WORDS: u16 = 32768;
 
 // How many words of configuration space an image or a reading has, and how many the cells have.
 pub const READING_TAIL: usize = 9;

@@ -4,7 +4,7 @@ use crate::MOST_WORDS;
 use words::WORD_LIMIT;
 ghost use mathlib.Core.Path.{_≡_};
 ghost use Prim.Native.Nat.{_<_};
-ghost use Rattle.device.specs.Record.{rowOk, wordsOk, idFits, recordNumber};
+ghost use Rattle.device.specs.Record.{mostWords, rowOk, wordsUpTo, idFits, recordNumber};
 
 // 0, or 13 for a record that breaks the rules.
 pub fn judge(d: Device) -> u8
@@ -45,7 +45,7 @@ fn row_ok(row: u16) -> bool
 
 fn words_ok(words: u16, row: u16) -> bool
     requires { ⌜ 0 < row ⌝ }
-    ensures { λ r. ⌜ r ≡ wordsOk words row ⌝ }
+    ensures { λ r. ⌜ r ≡ wordsUpTo mostWords words row ⌝ }
 {
     if words % row != 0 {
         return false;

@@ -15,7 +15,7 @@ use Rattle.sheet.specs.LawsSheet.{length-sheet}
 use Rattle.print.specs.Print.{refusedText}
 use Rattle.print.specs.LawsLines.{either-short}
 use Rattle.board.specs.Open.{recordOf, openNumber}
-use Rattle.board.specs.LawsOpen.{opened-sound}
+use Rattle.board.specs.LawsOpen.{opened-served}
 use Rattle.gathers.specs.Gather.{answersIn, answersOk, gatherNumber, gatherText}
 use Rattle.gathers.specs.LawsStored.{sheet-most}
 
@@ -67,4 +67,4 @@ module _ (table sheet answers : List ℕ) where
   gather-short =
       either-short 46135 (omega arith) (gatherNumber table sheet answers) 0 0 _
       (λ z. rw (length-sheet (recordOf table sheet) (answersIn (recordOf table sheet .words) answers))
-      (sheet-most (recordOf table sheet) (opened-sound table sheet (record-there z))))
+      (sheet-most (recordOf table sheet) (opened-served table sheet (record-there z))))

@@ -14,13 +14,14 @@ use Rattle.words.specs.LawsChoice.{pick-true}
 use Rattle.words.specs.LawsLists.{same-entries, length-overlay, overlay-inside, overlay-none, overlay-more}
 use Rattle.numerals.specs.Hex.{capitalOf, wordBy}
 use Rattle.device.specs.declared.Device.{Device}
-use Rattle.device.specs.Record.{mostWords, deviceOk}
+use Rattle.device.specs.Record.{deviceUpTo}
 use Rattle.device.specs.Memory.{readingTail, readingOk}
-use Rattle.device.specs.LawsRecord.{rules}
 use Rattle.device.specs.LawsMemory.{reading-each}
 use Rattle.sheet.specs.declared.Written.{Written}
 use Rattle.sheet.specs.Sheet.{sheetText, sheetLength, written, writtenText}
 use Rattle.sheet.specs.LawsSheet.{length-sheet}
+use Rattle.board.specs.Open.{mostProgram}
+use Rattle.board.specs.LawsOpen.{served-sound, served-most}
 use Rattle.board.specs.LawsBoard.{mostReading}
 use Rattle.gathers.specs.Gather.{answersIn, answersOk}
 use Rattle.gathers.specs.LawsAnswers.{length-in, answer-in, answers-sound}
@@ -58,13 +59,13 @@ module _ (t l : List ℕ) where
 
 -- ---- the sheet
 
-pub sheet-most : (d : Device) → deviceOk d ≡ true → sheetLength d ≤ 46135
+pub sheet-most : (d : Device) → deviceUpTo mostProgram d ≡ true → sheetLength d ≤ 46135
 unfolding sheetLength
-sheet-most d sound = let most : d .words ≤ mostWords = rules d sound .most in omega arith
+sheet-most d served = let most : d .words ≤ mostProgram = served-most d served in omega arith
 
-module _ (d : Device) (sound : deviceOk d ≡ true) where
+module _ (d : Device) (served : deviceUpTo mostProgram d ≡ true) where
   pub words-room : d .words + readingTail ≤ length {A = ℕ} (replicate mostReading 0)
-  words-room = let few : d .words ≤ mostWords = rules d sound .most in rw (length-replicate {A = ℕ} mostReading 0) (omega arith)
+  words-room = let few : d .words ≤ mostProgram = served-most d served in rw (length-replicate {A = ℕ} mostReading 0) (omega arith)
 
   pub words-part : length {A = ℕ} (take (d .words + readingTail) (replicate mostReading 0)) ≡ d .words + readingTail
   words-part = length-take-le (d .words + readingTail) (replicate mostReading 0) words-room
@@ -88,17 +89,17 @@ module _ (d : Device) (sound : deviceOk d ≡ true) where
 
     module _ (w : Written) (f : w ≡ written d (take (d .words + readingTail) (words ++ rest)) (replicate 46135 0)) where
       room : sheetLength d ≤ length {A = ℕ} (replicate 46135 0)
-      room = rw (length-replicate {A = ℕ} 46135 0) (sheet-most d sound)
+      room = rw (length-replicate {A = ℕ} 46135 0) (sheet-most d served)
 
       is : written d (take (d .words + readingTail) (words ++ rest)) (replicate 46135 0) ≡ record { number = 0; length = sheetLength d }
       unfolding written pick
-      is = rw (sound, good, le-leb (sheetLength d) (length {A = ℕ} (replicate 46135 0)) room)
+      is = rw (served-sound d served, good, le-leb (sheetLength d) (length {A = ℕ} (replicate 46135 0)) room)
 
       long : w .length ≡ sheetLength d
       long = ap (λ x. x .length) (f ∙ is)
 
       pub sheet-short : w .length ≤ 46135
-      sheet-short = rw long (sheet-most d sound)
+      sheet-short = rw long (sheet-most d served)
 
       pub sheet-front : (text : List ℕ) → text ≡ writtenText d (take (d .words + readingTail) (words ++ rest)) (replicate 46135 0) → take (w .length) text ≡ sheetText d (answersIn (d .words) t)
       unfolding writtenText

@@ -6,7 +6,7 @@ ghost use mathlib.Core.Bool.{true};
 ghost use Prim.Native.Nat.{_+_, _*_, _≤_};
 ghost use lib.ListN.{length};
 ghost use Rattle.device.specs.Memory.{readingTail, readingOk};
-ghost use Rattle.device.specs.Record.{mostWords};
+ghost use Rattle.board.specs.Open.{mostProgram};
 ghost use Rattle.gathers.specs.Gather.{answersIn, answersOk};
 ghost use Rattle.gathers.specs.LawsAnswers.{answerOk, answersTo};
 
@@ -14,7 +14,7 @@ const LF: u8 = 10;
 
 // Whether a text is just the lines of a whole reading.
 pub(crate) fn lines_ok(program: usize, text: &[u8]) -> bool
-    requires { ⌜ program ≤ mostWords ⌝ }
+    requires { ⌜ program ≤ mostProgram ⌝ }
     ensures { λ r. ⌜ r ≡ answersOk program (now (text .entry)) ⌝ }
 {
     let count = program + READING_TAIL;
@@ -53,7 +53,7 @@ fn line_ok(text: &[u8], at: usize) -> bool
 
 // Stores the words of a text that was judged.
 pub(crate) fn store(program: usize, text: &[u8], buffer: &mut [u16])
-    requires { ⌜ (program ≤ mostWords) × (length (now buffer) ≡ program + readingTail) × (readingOk program (answersIn program (now text)) ≡ true) ⌝ }
+    requires { ⌜ (program ≤ mostProgram) × (length (now buffer) ≡ program + readingTail) × (readingOk program (answersIn program (now text)) ≡ true) ⌝ }
     ensures { λ _. ⌜ now (buffer .exit) ≡ answersIn program (now (text .entry)) ⌝ }
 {
     let mut i = 0;

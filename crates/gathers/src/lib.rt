@@ -6,9 +6,10 @@ use device::READING_TAIL;
 ghost use mathlib.Core.Path.{_≡_};
 ghost use mathlib.Core.Bool.{true};
 ghost use Prim.Native.Nat.{_≤_};
-ghost use Rattle.device.specs.Record.{deviceOk};
+ghost use Rattle.device.specs.Record.{deviceUpTo};
 ghost use Rattle.sheet.specs.Sheet.{sheetText};
 ghost use Rattle.print.specs.Print.{Prints};
+ghost use Rattle.board.specs.Open.{mostProgram};
 ghost use Rattle.gathers.specs.Gather.{answersIn, answersOk, gatherText};
 
 // The length of the longest sheet.
@@ -31,7 +32,7 @@ pub fn gather(table: &[u8], sheet: &[u8], answers: &[u8], out: &mut [u8]) -> usi
 
 // The sheet of the words in a text that was judged.
 fn put_sheet(d: Device, answers: &[u8], out: &mut [u8]) -> usize
-    requires { ⌜ (deviceOk d ≡ true) × (answersOk (d .words) (now answers) ≡ true) ⌝ }
+    requires { ⌜ (deviceUpTo mostProgram d ≡ true) × (answersOk (d .words) (now answers) ≡ true) ⌝ }
     ensures { λ r. ⌜ Prints (sheetText d (answersIn (d .words) (now (answers .entry)))) (now (out .entry)) r (now (out .exit)) ⌝ }
 {
     let program = d.words as usize;

@@ -17,7 +17,7 @@ use Rattle.hexread.specs.declared.ReadHex.{ReadHex}
 
 -- the longest text
 abbrev pub mostText : ℕ
-mostText = 131072
+mostText = 524288
 
 -- ---- reading as a fold over the lines
 

@@ -16,4 +16,4 @@ pub struct ReadHex {
 }
 
 // The longest HEX text.
-pub const MOST_TEXT: usize = 131072;
+pub const MOST_TEXT: usize = 524288;

@@ -10,13 +10,13 @@ use Rattle.target.specs.declared.Order.{Order}
 use Rattle.target.specs.Stream.{bytesOf}
 use Rattle.target.specs.LawsStream.{length-bytes}
 use Rattle.device.specs.declared.Device.{Device}
-use Rattle.device.specs.Record.{deviceOk}
+use Rattle.device.specs.Record.{deviceUpTo}
 use Rattle.sheet.specs.Sheet.{sheetText}
 use Rattle.sheet.specs.LawsSheet.{length-sheet}
 use Rattle.print.specs.LawsLines.{either-short}
-use Rattle.board.specs.Open.{recordOf, openNumber, boardNumber}
-use Rattle.board.specs.LawsOpen.{opened-sound}
-use Rattle.board.specs.LawsBoard.{board-sound}
+use Rattle.board.specs.Open.{mostProgram, recordOf, openNumber, boardNumber}
+use Rattle.board.specs.LawsOpen.{opened-served}
+use Rattle.board.specs.LawsBoard.{board-served}
 use Rattle.listings.specs.Streams.{streamText, planText, hexOf, readbackText, updateText, freshText}
 use Rattle.listings.specs.Wanteds.{leftText, wantedText, wantedFreshText}
 use Rattle.listings.specs.LawsStreams.{mostStream}
@@ -53,41 +53,41 @@ plan-short number s few = either-short mostPrinted (omega arith) number 0 0 (str
 
 -- ---- sheets
 
-left-short : (number : ℕ) (d : Device) → deviceOk d ≡ true → (reading : List ℕ) → length (leftText number d reading) ≤ mostLeft
+left-short : (number : ℕ) (d : Device) → deviceUpTo mostProgram d ≡ true → (reading : List ℕ) → length (leftText number d reading) ≤ mostLeft
 unfolding leftText
-left-short number d sound reading = either-short mostLeft (omega arith) number 0 0 (sheetText d reading) (λ z. rw (length-sheet d reading) (sheet-most d sound))
+left-short number d served reading = either-short mostLeft (omega arith) number 0 0 (sheetText d reading) (λ z. rw (length-sheet d reading) (sheet-most d served))
 
 -- ---- the programs
 
 pub readback-short : (table sheet : List ℕ) → length (readbackText table sheet) ≤ 147632
 unfolding readbackText
 readback-short table sheet =
-    either-short mostPrinted (omega arith) (openNumber table sheet) 0 0 _ (λ z. steps-short _ (read-back-few (recordOf table sheet) (opened-sound table sheet z)))
+    either-short mostPrinted (omega arith) (openNumber table sheet) 0 0 _ (λ z. steps-short _ (read-back-few (recordOf table sheet) (opened-served table sheet z)))
 
 pub update-short : (table sheet hex : List ℕ) → length (updateText table sheet hex) ≤ 147632
 unfolding updateText
 update-short table sheet hex =
     either-short mostPrinted (omega arith) (boardNumber table sheet) 0 0 _
     (λ z. either-short mostPrinted (omega arith) (hexOf table sheet hex .number) (hexOf table sheet hex .line) (hexOf table sheet hex .column) _
-    (λ y. plan-short _ _ (update-few (recordOf table sheet) (board-sound table sheet z) _ _)))
+    (λ y. plan-short _ _ (update-few (recordOf table sheet) (board-served table sheet z) _ _)))
 
 pub fresh-short : (table sheet hex : List ℕ) → length (freshText table sheet hex) ≤ 147632
 unfolding freshText
 fresh-short table sheet hex =
     either-short mostPrinted (omega arith) (boardNumber table sheet) 0 0 _
     (λ z. either-short mostPrinted (omega arith) (hexOf table sheet hex .number) (hexOf table sheet hex .line) (hexOf table sheet hex .column) _
-    (λ y. plan-short _ _ (fresh-few (recordOf table sheet) (board-sound table sheet z) _)))
+    (λ y. plan-short _ _ (fresh-few (recordOf table sheet) (board-served table sheet z) _)))
 
 pub wanted-short : (table sheet hex : List ℕ) → length (wantedText table sheet hex) ≤ 46135
 unfolding wantedText
 wanted-short table sheet hex =
     either-short mostLeft (omega arith) (boardNumber table sheet) 0 0 _
     (λ z. either-short mostLeft (omega arith) (hexOf table sheet hex .number) (hexOf table sheet hex .line) (hexOf table sheet hex .column) _
-    (λ y. left-short _ (recordOf table sheet) (board-sound table sheet z) _))
+    (λ y. left-short _ (recordOf table sheet) (board-served table sheet z) _))
 
 pub wanted-fresh-short : (table sheet hex : List ℕ) → length (wantedFreshText table sheet hex) ≤ 46135
 unfolding wantedFreshText
 wanted-fresh-short table sheet hex =
     either-short mostLeft (omega arith) (boardNumber table sheet) 0 0 _
     (λ z. either-short mostLeft (omega arith) (hexOf table sheet hex .number) (hexOf table sheet hex .line) (hexOf table sheet hex .column) _
-    (λ y. left-short _ (recordOf table sheet) (board-sound table sheet z) _))
+    (λ y. left-short _ (recordOf table sheet) (board-served table sheet z) _))

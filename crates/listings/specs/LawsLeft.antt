@@ -16,9 +16,8 @@ use Rattle.words.specs.LawsTests.{by-test}
 use Rattle.words.specs.LawsLists.{length-build, getD-build, build-ext, in-range, overlay-more}
 use Rattle.words.specs.LawsWord.{words-of}
 use Rattle.device.specs.declared.Device.{Device}
-use Rattle.device.specs.Record.{mostWords, deviceOk}
+use Rattle.device.specs.Record.{deviceUpTo}
 use Rattle.device.specs.Memory.{readingTail, programmable, imageOk, readingOk}
-use Rattle.device.specs.LawsRecord.{rules}
 use Rattle.device.specs.LawsMemory.{reading-long, reading-each}
 use Rattle.sheet.specs.declared.Written.{Written}
 use Rattle.sheet.specs.Sheet.{sheetText, sheetLength, written, writtenText}
@@ -29,6 +28,8 @@ use Rattle.plan.specs.Demands.{programmed}
 use Rattle.plan.specs.LawsAccepted.{accepted, accepted-fresh}
 use Rattle.plan.specs.LawsPlanWanted.{update-source, fresh-source}
 use Rattle.print.specs.Print.{refusedText}
+use Rattle.board.specs.Open.{mostProgram}
+use Rattle.board.specs.LawsOpen.{served-sound, served-most}
 use Rattle.board.specs.LawsBoard.{mostReading}
 use Rattle.listings.specs.Wanteds.{leftText}
 use Rattle.listings.specs.LawsPlans.{planNumber, knownTo}
@@ -132,33 +133,33 @@ unfolding leftText
 left-refused number d reading n = sym (pick-false (eqb number 0) _ _ (ne-eqb number 0 n))
 
 -- a local buffer of the most words has room
-module _ (d : Device) (sound : deviceOk d ≡ true) where
+module _ (d : Device) (served : deviceUpTo mostProgram d ≡ true) where
   pub fill-room : d .words + readingTail ≤ length {A = ℕ} (replicate mostReading 0)
-  fill-room = let few : d .words ≤ mostWords = rules d sound .most in rw (length-replicate {A = ℕ} mostReading 0) (omega arith)
+  fill-room = let few : d .words ≤ mostProgram = served-most d served in rw (length-replicate {A = ℕ} mostReading 0) (omega arith)
 
   pub fill-part : length {A = ℕ} (take (d .words + readingTail) (replicate mostReading 0)) ≡ d .words + readingTail
   fill-part = length-take-le {A = ℕ} (d .words + readingTail) (replicate mostReading 0) fill-room
 
 -- ---- the sheet of a reading
 
-pub sheet-most : (d : Device) → deviceOk d ≡ true → sheetLength d ≤ 46135
+pub sheet-most : (d : Device) → deviceUpTo mostProgram d ≡ true → sheetLength d ≤ 46135
 unfolding sheetLength
-sheet-most d sound = let most : d .words ≤ mostWords = rules d sound .most in omega arith
+sheet-most d served = let most : d .words ≤ mostProgram = served-most d served in omega arith
 
-module _ (d : Device) (sound : deviceOk d ≡ true) (reading : List ℕ) (ok : readingOk (d .words) reading ≡ true) (text : List ℕ) (long : length text ≡ 46135)
+module _ (d : Device) (served : deviceUpTo mostProgram d ≡ true) (reading : List ℕ) (ok : readingOk (d .words) reading ≡ true) (text : List ℕ) (long : length text ≡ 46135)
     (w : Written) (e : w ≡ written d reading text) where
   fits : sheetLength d ≤ length text
-  fits = let m : sheetLength d ≤ 46135 = sheet-most d sound in omega arith
+  fits = let m : sheetLength d ≤ 46135 = sheet-most d served in omega arith
 
   sheet-is : written d reading text ≡ record { number = 0; length = sheetLength d }
   unfolding written pick
-  sheet-is = rw (sound, ok, le-leb (sheetLength d) (length text) fits)
+  sheet-is = rw (served-sound d served, ok, le-leb (sheetLength d) (length text) fits)
 
   sheet-long : w .length ≡ sheetLength d
   sheet-long = ap (λ x. x .length) (e ∙ sheet-is)
 
   pub sheet-short : w .length ≤ 46135
-  sheet-short = let m : sheetLength d ≤ 46135 = sheet-most d sound in let l : w .length ≡ sheetLength d = sheet-long in omega arith
+  sheet-short = let m : sheetLength d ≤ 46135 = sheet-most d served in let l : w .length ≡ sheetLength d = sheet-long in omega arith
 
   pub sheet-whole : (text′ : List ℕ) → text′ ≡ writtenText d reading text → take (w .length) text′ ≡ sheetText d reading
   unfolding writtenText

@@ -11,8 +11,7 @@ use borrow.Author.Tests.{eq-eqb, ne-eqb, le-leb}
 use Rattle.words.specs.Choice.{pick}
 use Rattle.words.specs.LawsChoice.{pick-true, pick-false}
 use Rattle.device.specs.declared.Device.{Device}
-use Rattle.device.specs.Record.{mostWords, deviceOk}
-use Rattle.device.specs.LawsRecord.{rules}
+use Rattle.device.specs.Record.{deviceUpTo}
 use Rattle.target.specs.declared.Order.{Order}
 use Rattle.target.specs.Stream.{bytesOf}
 use Rattle.target.specs.LawsStream.{length-bytes}
@@ -22,7 +21,8 @@ use Rattle.plan.specs.Answers.{readBackNumber, planned, plannedOut, Plans}
 use Rattle.plan.specs.LawsPlanBounds.{read-back-steps}
 use Rattle.plan.specs.LawsDemands.{plan-bytes}
 use Rattle.print.specs.Print.{refusedText}
-use Rattle.board.specs.Open.{recordOf, openNumber}
+use Rattle.board.specs.Open.{mostProgram, recordOf, openNumber}
+use Rattle.board.specs.LawsOpen.{served-sound, served-most}
 use Rattle.listings.specs.Streams.{streamText, planText, readbackText}
 use Rattle.listings.specs.LawsStreams.{mostStream}
 
@@ -108,10 +108,10 @@ plan-ready number steps few r out p = ready number steps (replicate mostStream 0
 
 -- ---- readback
 
-pub read-back-few : (d : Device) → deviceOk d ≡ true → 3 * length (readBackSteps d) ≤ mostStream
-read-back-few d sound =
-    let e : length (readBackSteps d) ≡ 2 * d .words + 18 = read-back-steps d sound in
-    let m : d .words ≤ mostWords = rules d sound .most in
+pub read-back-few : (d : Device) → deviceUpTo mostProgram d ≡ true → 3 * length (readBackSteps d) ≤ mostStream
+read-back-few d served =
+    let e : length (readBackSteps d) ≡ 2 * d .words + 18 = read-back-steps d (served-sound d served) in
+    let m : d .words ≤ mostProgram = served-most d served in
     omega arith
 
 module _ (table sheet : List ℕ) where
@@ -119,6 +119,6 @@ module _ (table sheet : List ℕ) where
   unfolding readbackText pick
   readback-refused number e n = rw (← e, ne-eqb number 0 n)
 
-  pub readback-found : openNumber table sheet ≡ 0 → (d : Device) → d ≡ recordOf table sheet → deviceOk d ≡ true → planText (readBackNumber d) (bytesOf (readBackSteps d)) ≡ readbackText table sheet
+  pub readback-found : openNumber table sheet ≡ 0 → (d : Device) → d ≡ recordOf table sheet → deviceUpTo mostProgram d ≡ true → planText (readBackNumber d) (bytesOf (readBackSteps d)) ≡ readbackText table sheet
   unfolding readbackText readBackNumber pick
-  readback-found z d e sound = rw (eq-eqb (openNumber table sheet) 0 z, sound) (unfold planText pick in ap (λ x. streamText (bytesOf (readBackSteps x))) e)
+  readback-found z d e served = rw (eq-eqb (openNumber table sheet) 0 z, served-sound d served) (unfold planText pick in ap (λ x. streamText (bytesOf (readBackSteps x))) e)

@@ -13,7 +13,7 @@ use Rattle.words.specs.Choice.{pick}
 use Rattle.words.specs.LawsChoice.{pick-true, pick-false}
 use Rattle.device.specs.declared.Device.{Device}
 use Rattle.device.specs.Memory.{readingTail}
-use Rattle.device.specs.Record.{mostWords, deviceOk}
+use Rattle.device.specs.Record.{deviceUpTo, deviceOk}
 use Rattle.device.specs.LawsRecord.{Rules, rules, row, whole-rows}
 use Rattle.device.specs.LawsMemory.{image-long}
 use Rattle.hexread.specs.Reader.{Outcome, blankImage, refusedAt, textRead, readAnswer, HexRead}
@@ -27,7 +27,8 @@ use Rattle.plan.specs.Answers.{updateNumber, freshNumber, Plans}
 use Rattle.plan.specs.Demands.{programmed}
 use Rattle.plan.specs.LawsPlanBounds.{update-bound, fresh-bound}
 use Rattle.print.specs.Print.{refusedText}
-use Rattle.board.specs.Open.{recordOf, boardNumber, boardReading}
+use Rattle.board.specs.Open.{mostProgram, recordOf, boardNumber, boardReading}
+use Rattle.board.specs.LawsOpen.{served-sound, served-most}
 use Rattle.listings.specs.Streams.{hexOf, planText, updateText, freshText}
 use Rattle.listings.specs.Wanteds.{leftText, wantedText, wantedFreshText}
 use Rattle.listings.specs.LawsStreams.{mostStream}
@@ -199,22 +200,22 @@ module _ (fresh left : Bool) (table sheet hex : List ℕ) where
 
 -- ---- each planner has room
 
-program-few : (d : Device) (sound : deviceOk d ≡ true) (n : ℕ) → n ≤ 2 * d .words + 2 * (d .words / d .row) + 22 → 3 * n ≤ mostStream
-program-few d sound n h =
-    let keeps : Rules d = rules d sound in
+program-few : (d : Device) (served : deviceUpTo mostProgram d ≡ true) (n : ℕ) → n ≤ 2 * d .words + 2 * (d .words / d .row) + 22 → 3 * n ≤ mostStream
+program-few d served n h =
+    let keeps : Rules d = rules d (served-sound d served) in
     let rows : d .words / d .row * d .row ≡ d .words = whole-rows d keeps in
     let least : 8 ≤ d .row = row (d .row) (keeps .row-is) .low in
     let eight : d .words / d .row * 8 ≤ d .words / d .row * d .row = mul-le-mul-left (d .words / d .row) least in
-    let most : d .words ≤ mostWords = keeps .most in
+    let most : d .words ≤ mostProgram = served-most d served in
     omega arith
 
-pub fresh-few : (d : Device) → deviceOk d ≡ true → (image : List ℕ) → 3 * length (freshSteps d image) ≤ mostStream
-fresh-few d sound image = program-few d sound (length (freshSteps d image)) (fresh-bound d image sound)
+pub fresh-few : (d : Device) → deviceUpTo mostProgram d ≡ true → (image : List ℕ) → 3 * length (freshSteps d image) ≤ mostStream
+fresh-few d served image = program-few d served (length (freshSteps d image)) (fresh-bound d image (served-sound d served))
 
-pub update-few : (d : Device) → deviceOk d ≡ true → (image reading : List ℕ) → 3 * length (updateSteps d image reading) ≤ mostStream
-update-few d sound image reading = program-few d sound (length (updateSteps d image reading)) (update-bound d image reading sound)
+pub update-few : (d : Device) → deviceUpTo mostProgram d ≡ true → (image reading : List ℕ) → 3 * length (updateSteps d image reading) ≤ mostStream
+update-few d served image reading = program-few d served (length (updateSteps d image reading)) (update-bound d image reading (served-sound d served))
 
-pub plan-few : (fresh : Bool) (d : Device) → deviceOk d ≡ true → (image reading : List ℕ) → 3 * length (planSteps fresh d image reading) ≤ mostStream
+pub plan-few : (fresh : Bool) (d : Device) → deviceUpTo mostProgram d ≡ true → (image reading : List ℕ) → 3 * length (planSteps fresh d image reading) ≤ mostStream
 unfolding planSteps pick
-plan-few true d sound image reading = fresh-few d sound image
-plan-few false d sound image reading = update-few d sound image reading
+plan-few true d served image reading = fresh-few d served image
+plan-few false d served image reading = update-few d served image reading

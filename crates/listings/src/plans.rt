@@ -9,10 +9,11 @@ ghost use mathlib.Core.Path.{_≡_};
 ghost use mathlib.Core.Bool.{true};
 ghost use Prim.Native.Nat.{_+_, _≤_};
 ghost use lib.ListN.{length};
-ghost use Rattle.device.specs.Record.{deviceOk};
+ghost use Rattle.device.specs.Record.{deviceUpTo};
 ghost use Rattle.device.specs.Memory.{readingTail, readingOk};
 ghost use Rattle.plan.specs.Answers.{Plans};
 ghost use Rattle.print.specs.Print.{Prints};
+ghost use Rattle.board.specs.Open.{mostProgram};
 ghost use Rattle.listings.specs.Streams.{updateText, freshText};
 ghost use Rattle.listings.specs.Wanteds.{wantedText, wantedFreshText};
 ghost use Rattle.listings.specs.LawsPlans.{planNumber, planSteps, endText, programText};
@@ -86,7 +87,7 @@ fn put_planned(
     left: bool,
     out: &mut [u8],
 ) -> usize
-    requires { ⌜ (deviceOk d ≡ true) × (readingOk (d .words) (now reading) ≡ true) ⌝ }
+    requires { ⌜ (deviceUpTo mostProgram d ≡ true) × (readingOk (d .words) (now reading) ≡ true) ⌝ }
     ensures { λ r. ⌜ Prints (endText fresh left d (now (image .entry)) (now (reading .entry))) (now (out .entry)) r (now (out .exit)) ⌝ }
 {
     let mut stream = [0u8; streams::MOST_STREAM];

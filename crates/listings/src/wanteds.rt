@@ -5,11 +5,12 @@ ghost use mathlib.Core.Path.{_≡_};
 ghost use mathlib.Core.Bool.{true};
 ghost use Prim.Native.Nat.{_<_};
 ghost use lib.ListN.{length};
-ghost use Rattle.device.specs.Record.{deviceOk};
+ghost use Rattle.device.specs.Record.{deviceUpTo};
 ghost use Rattle.device.specs.Memory.{readingOk};
 ghost use Rattle.sheet.specs.Sheet.{sheetText};
 ghost use Rattle.plan.specs.Demands.{programmed};
 ghost use Rattle.print.specs.Print.{Prints};
+ghost use Rattle.board.specs.Open.{mostProgram};
 ghost use Rattle.listings.specs.Wanteds.{leftText};
 ghost use Rattle.listings.specs.LawsPlans.{planNumber, knownTo};
 ghost use Rattle.listings.specs.LawsLeft.{leftWord};
@@ -26,7 +27,7 @@ pub(crate) fn put_left(
     number: u8,
     out: &mut [u8],
 ) -> usize
-    requires { ⌜ (deviceOk d ≡ true) × (readingOk (d .words) (now reading) ≡ true) × (number ≡ planNumber fresh d (now image) (now reading)) ⌝ }
+    requires { ⌜ (deviceUpTo mostProgram d ≡ true) × (readingOk (d .words) (now reading) ≡ true) × (number ≡ planNumber fresh d (now image) (now reading)) ⌝ }
     ensures { λ r. ⌜ Prints (leftText number d (programmed d (now (image .entry)) (knownTo fresh (now (reading .entry))) (now (reading .entry)))) (now (out .entry)) r (now (out .exit)) ⌝ }
 {
     if number != 0 {
@@ -66,7 +67,7 @@ fn left_word(d: Device, image: &[u16], reading: &[u16], fresh: bool, i: usize) -
 
 // The sheet of a reading.
 fn put_sheet(d: Device, reading: &[u16], out: &mut [u8]) -> usize
-    requires { ⌜ (deviceOk d ≡ true) × (readingOk (d .words) (now reading) ≡ true) ⌝ }
+    requires { ⌜ (deviceUpTo mostProgram d ≡ true) × (readingOk (d .words) (now reading) ≡ true) ⌝ }
     ensures { λ r. ⌜ Prints (sheetText d (now (reading .entry))) (now (out .entry)) r (now (out .exit)) ⌝ }
 {
     let mut sheet = [0u8; MOST_SHEET];

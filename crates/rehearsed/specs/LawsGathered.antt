@@ -13,8 +13,7 @@ use Rattle.words.specs.LawsChoice.{pick-false, second-fails}
 use Rattle.words.specs.LawsLists.{length-build, built}
 use Rattle.words.specs.LawsTests.{by-eq}
 use Rattle.device.specs.declared.Device.{Device}
-use Rattle.device.specs.Record.{mostWords, deviceOk}
-use Rattle.device.specs.LawsRecord.{rules}
+use Rattle.device.specs.Record.{deviceUpTo}
 use Rattle.device.specs.Memory.{readingTail, cpWord, protected}
 use Rattle.device.specs.LawsMemory.{protected-same}
 use Rattle.sheet.specs.Sheet.{sheetText, sheetOk}
@@ -31,9 +30,9 @@ use Rattle.target.specs.LawsStream.{FitsAll, fits-append, length-bytes}
 use Rattle.plan.specs.Steps.{reads, readSteps, readBackSteps}
 use Rattle.plan.specs.Demands.{readingOf}
 use Rattle.plan.specs.LawsReadBack.{at, read-back-answers}
-use Rattle.board.specs.Open.{recordOf, openNumber, boardNumber, boardReading}
-use Rattle.board.specs.LawsOpen.{opened-sound}
-use Rattle.board.specs.LawsBoard.{board-refused, board-found, board-sound}
+use Rattle.board.specs.Open.{mostProgram, recordOf, openNumber, boardNumber, boardReading}
+use Rattle.board.specs.LawsOpen.{opened-sound, served-most}
+use Rattle.board.specs.LawsBoard.{board-refused, board-found, board-served}
 use Rattle.listings.specs.Streams.{streamText, readbackText, updateText}
 use Rattle.listings.specs.Wanteds.{wantedText}
 use Rattle.listings.specs.LawsPlanned.{read-back-few}
@@ -164,8 +163,8 @@ module _ (table sheet : List ℕ) (z : boardNumber table sheet ≡ 0) where
       gathered table sheet (stream-printed table sheet opens) (cellsOf reading) (first-sound table sheet z) same mostSteps enough (replicate mostSteps 0) room
       ∙ sheet-again
     where
-      sound : deviceOk (recordOf table sheet) ≡ true
-      sound = board-sound table sheet z
+      served : deviceUpTo mostProgram (recordOf table sheet) ≡ true
+      served = board-served table sheet z
 
       same : protected (recordOf table sheet .words) (cellsOf reading) ≡ false
       same =
@@ -175,11 +174,11 @@ module _ (table sheet : List ℕ) (z : boardNumber table sheet ≡ 0) where
           ∙ bare
 
       room : recordOf table sheet .words + readingTail ≤ length {A = ℕ} (replicate mostSteps 0)
-      room = let most : recordOf table sheet .words ≤ mostWords = rules (recordOf table sheet) sound .most in rw (length-replicate {A = ℕ} mostSteps 0) (omega arith)
+      room = let most : recordOf table sheet .words ≤ mostProgram = served-most (recordOf table sheet) served in rw (length-replicate {A = ℕ} mostSteps 0) (omega arith)
 
       enough : length (streamOf (readbackText table sheet)) / 3 ≤ mostSteps
       enough =
-          let few : 3 * length (readBackSteps (recordOf table sheet)) ≤ 55362 = read-back-few (recordOf table sheet) sound in
+          let few : 3 * length (readBackSteps (recordOf table sheet)) ≤ 55362 = read-back-few (recordOf table sheet) served in
           let e : length (streamOf (readbackText table sheet)) ≡ 3 * length (readBackSteps (recordOf table sheet)) =
           ap length (read-again table sheet opens) ∙ length-bytes (readBackSteps (recordOf table sheet)) in
           omega arith

@@ -29,7 +29,7 @@ use Rattle.plan.specs.LawsAccepted.{Accepted, accepted, AcceptedFresh, accepted
 use Rattle.plan.specs.LawsUpdate.{update-recovers}
 use Rattle.plan.specs.LawsFresh.{fresh-recovers}
 use Rattle.board.specs.Open.{recordOf, boardNumber, boardReading}
-use Rattle.board.specs.LawsBoard.{board-sound}
+use Rattle.board.specs.LawsBoard.{board-sound, board-served}
 use Rattle.listings.specs.Streams.{streamText, hexOf, planText, updateText, freshText}
 use Rattle.listings.specs.Wanteds.{leftText, wantedText, wantedFreshText}
 use Rattle.listings.specs.LawsPlans.{update-few, fresh-few}
@@ -184,7 +184,7 @@ module _ (table sheet hex : List ℕ) where
 pub rehearsed : (table sheet hex : List ℕ) → isRefusal (updateText table sheet hex) ≡ false → trialText table sheet (updateText table sheet hex) ≡ wantedText table sheet hex
 rehearsed table sheet hex printed =
     ap (trialText table sheet) (update-stream table sheet hex u)
-    ∙ trial-printed table sheet (u .board-is) (updateSteps (d table sheet hex) (image table sheet hex) (reading table sheet hex)) (update-fits _ _ _ a) (update-few _ (a .device) _ _)
+    ∙ trial-printed table sheet (u .board-is) (updateSteps (d table sheet hex) (image table sheet hex) (reading table sheet hex)) (update-fits _ _ _ a) (update-few _ (board-served table sheet (u .board-is)) _ _)
     (wantedText table sheet hex) (update-left table sheet hex u _ (first-sound table sheet (u .board-is)) (first-front table sheet (u .board-is)))
   where
     u : Good table sheet hex (updates table sheet hex)
@@ -197,7 +197,7 @@ rehearsed table sheet hex printed =
 pub rehearsed-fresh : (table sheet hex : List ℕ) → isRefusal (freshText table sheet hex) ≡ false → trialText table sheet (freshText table sheet hex) ≡ wantedFreshText table sheet hex
 rehearsed-fresh table sheet hex printed =
     ap (trialText table sheet) (fresh-stream table sheet hex u)
-    ∙ trial-printed table sheet (u .board-is) (freshSteps (d table sheet hex) (image table sheet hex)) (fresh-fits _ _ a) (fresh-few _ (a .device) _)
+    ∙ trial-printed table sheet (u .board-is) (freshSteps (d table sheet hex) (image table sheet hex)) (fresh-fits _ _ a) (fresh-few _ (board-served table sheet (u .board-is)) _)
     (wantedFreshText table sheet hex) (fresh-left table sheet hex u _ sound held)
   where
     u : Good table sheet hex (freshes table sheet hex)

@@ -16,22 +16,23 @@ use Rattle.words.specs.Lists.{inRange, overlay}
 use Rattle.words.specs.LawsChoice.{pick-true, pick-false, decided}
 use Rattle.words.specs.LawsLists.{length-build, getD-build, build-ext, in-range, below-range, above-range, overlay-none, overlay-more}
 use Rattle.device.specs.declared.Device.{Device}
-use Rattle.device.specs.Record.{mostWords, deviceOk}
+use Rattle.device.specs.Record.{deviceUpTo, deviceOk}
 use Rattle.device.specs.Memory.{readingTail, ids, cpWord, programmable, entryOk, imageOk, readingOk, protected}
-use Rattle.device.specs.LawsRecord.{rules, words-eighths}
+use Rattle.device.specs.LawsRecord.{Rules, rules, words-eighths}
 use Rattle.device.specs.LawsMemory.{programmable-low, programmable-never, programmable-config, programmable-lt, entry-none, entry-given, image-of, reading-each}
 use Rattle.hexwrite.specs.declared.WrittenHex.{WrittenHex}
 use Rattle.hexwrite.specs.Writer.{hexText, writtenHex, writtenOut, WroteHex}
 use Rattle.print.specs.Print.{refusedText}
 use Rattle.print.specs.LawsLines.{refused-short, either-short}
-use Rattle.board.specs.Open.{recordOf, boardNumber, boardReading, openedReading}
-use Rattle.board.specs.LawsBoard.{mostReading, Board, board-opened, board-sound, board-told, board-text}
+use Rattle.board.specs.Open.{mostProgram, recordOf, boardNumber, boardReading, openedReading}
+use Rattle.board.specs.LawsOpen.{served-sound, served-most}
+use Rattle.board.specs.LawsBoard.{mostReading, Board, board-opened, board-served, board-told, board-text}
 use Rattle.reports.specs.Dump.{imageOf, dumpText}
 use Rattle.reports.specs.LawsWhole.{whole-length}
 
 -- the most bytes of a text: 44 for eight words, and 88
 abbrev pub mostDump : ℕ
-mostDump = 44 * (mostWords / 8) + 88
+mostDump = 44 * (mostProgram / 8) + 88
 
 -- three entries made 'not given'
 unfoldable hidden : (first : ℕ) → List ℕ → List ℕ
@@ -96,11 +97,12 @@ pub record Dumped (text : List ℕ) (r : WrittenHex) (out : List ℕ) : Type 0 w
   pub within : r .length ≤ length out
   pub whole : take (r .length) out ≡ text
 
-text-few : (d : Device) → deviceOk d ≡ true → (reading : List ℕ) → readingOk (d .words) reading ≡ true → length (hexText (d .words) (imageOf (d .words) reading)) ≤ mostDump
-text-few d sound reading ok =
-    let most : d .words ≤ mostWords = rules d sound .most in
+text-few : (d : Device) → deviceUpTo mostProgram d ≡ true → (reading : List ℕ) → readingOk (d .words) reading ≡ true → length (hexText (d .words) (imageOf (d .words) reading)) ≤ mostDump
+text-few d served reading ok =
+    let most : d .words ≤ mostProgram = served-most d served in
+    let keeps : Rules d = rules d (served-sound d served) in
     let short : length (hexText (d .words) (imageOf (d .words) reading)) ≤ 44 * (d .words / 8) + 88 =
-    whole-length (d .words) most (words-eighths d (rules d sound)) (imageOf (d .words) reading) (image-long (d .words) reading)
+    whole-length (d .words) (keeps .most) (words-eighths d keeps) (imageOf (d .words) reading) (image-long (d .words) reading)
     (image-given (d .words) reading ok) (image-never (d .words) reading) in
     omega arith
 
@@ -150,7 +152,7 @@ unfolding dumpText
 dump-short table sheet =
     either-short mostDump (omega arith) (boardNumber table sheet) 0 0 _
     (λ z. by (not (protected (recordOf table sheet .words) (boardReading table sheet)))
-    (text-few (recordOf table sheet) (board-sound table sheet z) (boardReading table sheet) (board-good table sheet z)) (refused-short 23 0 0))
+    (text-few (recordOf table sheet) (board-served table sheet z) (boardReading table sheet) (board-good table sheet z)) (refused-short 23 0 0))
   where
     by : (c : Bool) → length (hexText (recordOf table sheet .words) (imageOf (recordOf table sheet .words) (boardReading table sheet))) ≤ mostDump → length (refusedText 23 0 0) ≤ 41
         → length (pick c (hexText (recordOf table sheet .words) (imageOf (recordOf table sheet .words) (boardReading table sheet))) (refusedText 23 0 0)) ≤ mostDump
@@ -192,7 +194,7 @@ module _ (table sheet : List ℕ) (number : ℕ) (e : number ≡ boardNumber tab
       ok = ap (imageOk (d .words)) front ∙ image-sound (d .words) (take (d .words + readingTail) reading) (b .good)
 
       few : length (hexText (d .words) (take (d .words + readingTail) hides)) ≤ mostDump
-      few = rw front (text-few d (b .sound) (take (d .words + readingTail) reading) (b .good))
+      few = rw front (text-few d (b .served) (take (d .words + readingTail) reading) (b .good))
 
       text-is : hexText (d .words) (take (d .words + readingTail) hides) ≡ dumpText table sheet
       unfolding dumpText

@@ -14,7 +14,6 @@ use Rattle.words.specs.Address.{configBase, addressOf}
 use Rattle.words.specs.First.{firstTo}
 use Rattle.device.specs.declared.Device.{Device}
 use Rattle.device.specs.Memory.{readingTail, protected}
-use Rattle.device.specs.Record.{mostWords}
 use Rattle.sheet.specs.Sheet.{sheetOk, wordsIn, readNumber, readBuffer}
 use Rattle.sheet.specs.LawsSheet.{length-words, read-sound}
 use Rattle.judge.specs.declared.Sum.{Sum}
@@ -27,7 +26,7 @@ use Rattle.judge.specs.LawsCount.{count-le}
 use Rattle.judge.specs.LawsVerify.{verified-judged}
 use Rattle.print.specs.Print.{refusedText, sumText, verdictText}
 use Rattle.print.specs.LawsLines.{either-short, sum-short, verdict-short}
-use Rattle.board.specs.Open.{recordOf, boardNumber, boardReading}
+use Rattle.board.specs.Open.{mostProgram, recordOf, boardNumber, boardReading}
 use Rattle.board.specs.LawsOpen.{sheet-bad, sheet-good, sheet-words}
 use Rattle.board.specs.LawsBoard.{mostReading, Board, board-told, board-text}
 use Rattle.reports.specs.Programs.{checksumText, verdictLine, verifyNumber, verifyText}
@@ -116,7 +115,7 @@ module _ (table sheet wanted : List ℕ) (number : ℕ) (e : number ≡ boardNum
         pub verify-count : v .count ≤ mostReading
         verify-count =
             let same : v .count ≡ verdictOf d (wordsIn (d .words) wanted) (take (d .words + readingTail) reading) .count = ap (λ x. x .count) verdict-is in
-            let most : d .words ≤ mostWords = b .most in
+            let most : d .words ≤ mostProgram = b .most in
             omega (arith, counted d (wordsIn (d .words) wanted) (take (d .words + readingTail) reading))
           where
             counted : (e : Device) (aim l : List ℕ) → verdictOf e aim l .count ≤ e .words + readingTail

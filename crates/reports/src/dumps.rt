@@ -1,6 +1,6 @@
 // The program dump.
+use board::MOST_PROGRAM;
 use device::IDS;
-use device::MOST_WORDS;
 use device::READING_TAIL;
 use words::NOT_GIVEN;
 ghost use Prim.Native.Nat.{_≤_};
@@ -9,7 +9,7 @@ ghost use Rattle.reports.specs.Dump.{dumpText};
 ghost use Rattle.reports.specs.LawsDump.{mostDump};
 
 // The longest text: 44 bytes for eight program words, and 88.
-const MOST_DUMP: usize = 44 * ((MOST_WORDS as usize) / 8) + 88;
+const MOST_DUMP: usize = 44 * ((MOST_PROGRAM as usize) / 8) + 88;
 
 // Prints a board's sheet as HEX text as far as there is room, and answers the length of the whole text. A protected sheet has no program words to tell of.
 pub fn dump(table: &[u8], sheet: &[u8], out: &mut [u8]) -> usize

@@ -22,7 +22,7 @@ use Rattle.device.specs.Record.{mostWords, deviceOk}
 use Rattle.device.specs.LawsRecord.{Rules, Row, rules, breaks, row}
 use Rattle.numerals.specs.Text.{tab, split}
 use Rattle.numerals.specs.LawsText.{part, part-found, part-last, some-piece}
-use Rattle.table.specs.Table.{field, allPrintable, nameOk, hexField, hexOk, deviceOf, lineOk, idOf}
+use Rattle.table.specs.Table.{field, allPrintable, nameOk, hexField, hexOk, deviceOf, lineUpTo, idOf}
 
 -- ---- results of the code's parts
 
@@ -46,7 +46,7 @@ pub record Made (id words row mask1 mask2 : ℕ) (ok : Bool) (d : Device) : Type
 
 -- a line read: its test, and if it holds its device and the length of its name
 pub record LineRead (line : List ℕ) (ok : Bool) (name : ℕ) (d : Device) : Type 0 where
-  pub test : ok ≡ lineOk line
+  pub test : ok ≡ lineUpTo mostWords line
   pub device : ok ≡ true → d ≡ deviceOf line
   pub named : ok ≡ true → name ≡ length (field 0 line)
 
@@ -236,14 +236,14 @@ module _ (f1 f2 f3 f4 f5 : List ℕ) where
 
 -- the code's parts put together
 module _ (line f0 f1 f2 f3 f4 f5 : List ℕ) (six : split tab line ≡ f0 ∷ f1 ∷ f2 ∷ f3 ∷ f4 ∷ f5 ∷ []) where
-  line-test : lineOk line ≡ (nameOk f0 && deviceOk (record { id = hexField f1; words = decimalOf mostWords f2; row = decimalOf 32 f3; mask1 = hexField f4; mask2 = hexField f5 }))
-  unfolding lineOk field deviceOf
+  line-test : lineUpTo mostWords line ≡ (nameOk f0 && deviceOk (record { id = hexField f1; words = decimalOf mostWords f2; row = decimalOf 32 f3; mask1 = hexField f4; mask2 = hexField f5 }))
+  unfolding lineUpTo deviceOk field deviceOf
   line-test =
       rw six
       (regroup (nameOk f0) (hexOk f1) (isDecimal f2) (isDecimal f3) (hexOk f4) (hexOk f5) (deviceOk (plain f1 f2 f3 f4 f5))
       ∙ ap (λ t. nameOk f0 && t) (kinds-numbers f1 f2 f3 f4 f5))
 
-  pub line-no-name : nameOk f0 ≡ false → lineOk line ≡ false
+  pub line-no-name : nameOk f0 ≡ false → lineUpTo mostWords line ≡ false
   line-no-name h = line-test ∙ first-fails (nameOk f0) _ h
 
   pub line-read : (name : ℕ) (ok : Bool) (d : Device) → nameOk f0 ≡ true → name ≡ length f0
@@ -262,11 +262,11 @@ module _ (line f0 f1 f2 f3 f4 f5 : List ℕ) (six : split tab line ≡ f0 ∷ f1
       name-is = unfold field in rw six
 
 -- a line that is refused
-pub line-refused : (line : List ℕ) (ok : Bool) (name : ℕ) (d : Device) → ok ≡ false → lineOk line ≡ false → LineRead line ok name d
+pub line-refused : (line : List ℕ) (ok : Bool) (name : ℕ) (d : Device) → ok ≡ false → lineUpTo mostWords line ≡ false → LineRead line ok name d
 line-refused line ok name d f h = record { test = f ∙ sym h; device = λ t. absurd (true-not-false t f); named = λ t. absurd (true-not-false t f) }
 
-pub line-few : (line : List ℕ) → eqb (length (split tab line)) 6 ≡ false → lineOk line ≡ false
-unfolding lineOk
+pub line-few : (line : List ℕ) → eqb (length (split tab line)) 6 ≡ false → lineUpTo mostWords line ≡ false
+unfolding lineUpTo
 line-few line h = rw h
 
 -- the fields as the code cuts them out of a line

@@ -15,10 +15,10 @@ use Rattle.words.specs.LawsChoice.{pick-true, pick-false, first-holds, second-h
 use Rattle.device.specs.declared.Device.{Device}
 use Rattle.numerals.specs.Text.{tab, lf, split}
 use Rattle.numerals.specs.Decimal.{isDecimal}
-use Rattle.device.specs.Record.{deviceOk}
+use Rattle.device.specs.Record.{mostWords, deviceOk}
 use Rattle.numerals.specs.LawsText.{part, part-found, part-last, some-piece}
 use Rattle.table.specs.LawsLine.{LineRead}
-use Rattle.table.specs.Table.{butLast, lastOf, field, nameOk, hexOk, deviceOf, lineOk, idOf, tableLines, mostLines, endsInLf, allLinesOk, hasId, idsOnce, tableOk, tableNumber, lineWith, startOf, refused, given, foundIn}
+use Rattle.table.specs.Table.{butLast, lastOf, field, nameOk, hexOk, deviceOf, lineUpTo, idOf, tableLines, mostLines, endsInLf, linesUpTo, hasId, idsOnce, tableUpTo, tableOk, tableNumber, lineWith, startOf, refused, given, foundUpTo, foundIn}
 
 -- ---- all pieces but the last, and the last
 
@@ -70,11 +70,11 @@ leftOk n rest =
     endsInLf rest
     && leb 1 (n + length (tableLines rest))
     && leb (n + length (tableLines rest)) mostLines
-    && allLinesOk (tableLines rest)
+    && linesUpTo mostWords (tableLines rest)
     && idsOnce (tableLines rest)
 
 pub left-all : (text : List ℕ) → tableOk text ≡ leftOk 0 (drop 0 text)
-unfolding tableOk leftOk
+unfolding tableOk tableUpTo leftOk
 left-all text = rw (zero-add (length (tableLines text)))
 
 module _ (n : ℕ) (text : List ℕ) (from r : ℕ) (e : r ≡ from + indexOf lf (slice from (length text) text)) (within : from < length text) where
@@ -86,8 +86,8 @@ module _ (n : ℕ) (text : List ℕ) (from r : ℕ) (e : r ≡ from + indexOf lf
   left-no-end h = rw (ends-not text from r e here h within)
 
   module _ (h : r < length text) where
-    pub left-bad-line : lineOk (take (r - from) (drop from text)) ≡ false → leftOk n (drop from text) ≡ false
-    unfolding leftOk allLinesOk
+    pub left-bad-line : lineUpTo mostWords (take (r - from) (drop from text)) ≡ false → leftOk n (drop from text) ≡ false
+    unfolding leftOk linesUpTo
     left-bad-line f =
         rw (lines-more text from r e here h, f)
         (first-fails (chain && false) (idsOnce (l ∷ rest)) (second-fails chain false refl))
@@ -105,14 +105,14 @@ module _ (n : ℕ) (text : List ℕ) (from r : ℕ) (e : r ≡ from + indexOf lf
     unfolding leftOk idsOnce
     left-twice t =
         rw (lines-more text from r e here h, t)
-        (second-fails (endsInLf (drop from text) && leb 1 (n + suc (length rest)) && leb (n + suc (length rest)) mostLines && allLinesOk (take (r - from) (drop from text) ∷ rest)) false refl)
+        (second-fails (endsInLf (drop from text) && leb 1 (n + suc (length rest)) && leb (n + suc (length rest)) mostLines && linesUpTo mostWords (take (r - from) (drop from text) ∷ rest)) false refl)
       where
         rest : List (List ℕ)
         rest = tableLines (drop (r + 1) text)
 
-    pub left-on : lineOk (take (r - from) (drop from text)) ≡ true → hasId (idOf (take (r - from) (drop from text))) (tableLines (drop (r + 1) text)) ≡ false
+    pub left-on : lineUpTo mostWords (take (r - from) (drop from text)) ≡ true → hasId (idOf (take (r - from) (drop from text))) (tableLines (drop (r + 1) text)) ≡ false
         → leftOk n (drop from text) ≡ leftOk (n + 1) (drop (r + 1) text)
-    unfolding leftOk allLinesOk idsOnce
+    unfolding leftOk linesUpTo idsOnce
     left-on t f =
         let count : n + suc (length (tableLines (drop (r + 1) text))) ≡ n + 1 + length (tableLines (drop (r + 1) text)) = omega arith in
         rw (lines-more text from r e here h, ends-more text from r e here h, t, f, count)
@@ -122,8 +122,8 @@ pub left-many : (n : ℕ) (rest : List ℕ) → mostLines < n → leftOk n rest 
 unfolding leftOk
 left-many n rest h =
     rw (lt-leb (n + length (tableLines rest)) mostLines (omega arith))
-    (first-fails (endsInLf rest && leb 1 (n + length (tableLines rest)) && false && allLinesOk (tableLines rest)) (idsOnce (tableLines rest))
-    (first-fails (endsInLf rest && leb 1 (n + length (tableLines rest)) && false) (allLinesOk (tableLines rest))
+    (first-fails (endsInLf rest && leb 1 (n + length (tableLines rest)) && false && linesUpTo mostWords (tableLines rest)) (idsOnce (tableLines rest))
+    (first-fails (endsInLf rest && leb 1 (n + length (tableLines rest)) && false) (linesUpTo mostWords (tableLines rest))
     (second-fails (endsInLf rest && leb 1 (n + length (tableLines rest))) false refl)))
 
 -- at the text's end
@@ -134,7 +134,7 @@ module _ (n : ℕ) (text : List ℕ) (from : ℕ) (done : length text ≤ from) 
       rw (ends-end text from done, lines-end text from done, add-zero n, lt-leb 1 n h)
 
   pub left-some : 1 ≤ n → n ≤ mostLines → leftOk n (drop from text) ≡ true
-  unfolding leftOk allLinesOk idsOnce
+  unfolding leftOk linesUpTo idsOnce
   left-some p q = rw (ends-end text from done, lines-end text from done, add-zero n, le-leb 1 n p, le-leb n mostLines q)
 
 -- ---- the answers
@@ -150,7 +150,7 @@ module _ (text : List ℕ) where
 
   -- a last line without its LF
   pub table-unended : endsInLf text ≡ false → 15 ≡ tableNumber text
-  table-unended f = table-bad (unfold tableOk in rw f)
+  table-unended f = table-bad (unfold tableOk tableUpTo in rw f)
 
   pub good-of-number : tableNumber text ≡ 0 → tableOk text ≡ true
   unfolding tableNumber pick
@@ -274,39 +274,39 @@ sought-none id text from so h =
 -- ---- the record of an ID
 
 -- in a sound table every line is sound
-line-with-ok : (id : ℕ) (ls : List (List ℕ)) → allLinesOk ls ≡ true → hasId id ls ≡ true → lineOk (lineWith id ls) ≡ true
-unfolding allLinesOk hasId lineWith
+line-with-ok : (id : ℕ) (ls : List (List ℕ)) → linesUpTo mostWords ls ≡ true → hasId id ls ≡ true → lineUpTo mostWords (lineWith id ls) ≡ true
+unfolding linesUpTo hasId lineWith
 line-with-ok id [] a h = absurd (true-not-false h refl)
-line-with-ok id (l ∷ ls) a h = by (eqb (idOf l) id) h (line-with-ok id ls (second-holds (lineOk l) (allLinesOk ls) a))
+line-with-ok id (l ∷ ls) a h = by (eqb (idOf l) id) h (line-with-ok id ls (second-holds (lineUpTo mostWords l) (linesUpTo mostWords ls) a))
   where
-    by : (t : Bool) → (t || hasId id ls) ≡ true → (hasId id ls ≡ true → lineOk (lineWith id ls) ≡ true) → lineOk (pick t l (lineWith id ls)) ≡ true
-    by true q ih = unfold pick in first-holds (lineOk l) (allLinesOk ls) a
+    by : (t : Bool) → (t || hasId id ls) ≡ true → (hasId id ls ≡ true → lineUpTo mostWords (lineWith id ls) ≡ true) → lineUpTo mostWords (pick t l (lineWith id ls)) ≡ true
+    by true q ih = unfold pick in first-holds (lineUpTo mostWords l) (linesUpTo mostWords ls) a
     by false q ih = unfold pick in ih q
 
-lines-ok : (text : List ℕ) → tableOk text ≡ true → allLinesOk (tableLines text) ≡ true
-unfolding tableOk
+lines-ok : (text : List ℕ) → tableOk text ≡ true → linesUpTo mostWords (tableLines text) ≡ true
+unfolding tableOk tableUpTo
 lines-ok text e =
-    second-holds (endsInLf text && leb 1 (length (tableLines text)) && leb (length (tableLines text)) mostLines) (allLinesOk (tableLines text))
-    (first-holds (endsInLf text && leb 1 (length (tableLines text)) && leb (length (tableLines text)) mostLines && allLinesOk (tableLines text)) (idsOnce (tableLines text)) e)
+    second-holds (endsInLf text && leb 1 (length (tableLines text)) && leb (length (tableLines text)) mostLines) (linesUpTo mostWords (tableLines text))
+    (first-holds (endsInLf text && leb 1 (length (tableLines text)) && leb (length (tableLines text)) mostLines && linesUpTo mostWords (tableLines text)) (idsOnce (tableLines text)) e)
 
 module _ (text : List ℕ) (id : ℕ) where
   pub found-bad : tableOk text ≡ false → foundIn text id ≡ refused 15
-  unfolding foundIn
+  unfolding foundIn foundUpTo tableOk
   found-bad f = pick-false (tableOk text) _ _ f
 
   pub found-none : tableOk text ≡ true → (found : Bool) (at stop : ℕ) → Sought id text found at stop → found ≡ false → foundIn text id ≡ refused 16
-  unfolding foundIn
+  unfolding foundIn foundUpTo tableOk
   found-none t found at stop s f =
       pick-true (tableOk text) _ _ t ∙ pick-false (hasId id (tableLines text)) _ _ (sym (s .has) ∙ f)
 
   pub found-here : tableOk text ≡ true → (found : Bool) (at stop : ℕ) → Sought id text found at stop → found ≡ true
       → (ok : Bool) (name : ℕ) (d : Device) → LineRead (take (stop - at) (drop at text)) ok name d
       → record { number = 0; device = d; «name_at» = at; «name_len» = name } ≡ foundIn text id
-  unfolding foundIn given
+  unfolding foundIn foundUpTo tableOk given
   found-here t found at stop s y ok name d l =
       let has : hasId id (tableLines text) ≡ true = sym (s .has) ∙ y in
-      let sound : lineOk (lineWith id (tableLines text)) ≡ true = line-with-ok id (tableLines text) (lines-ok text t) has in
-      let fine : ok ≡ true = l .test ∙ (ap lineOk (s .line y) ∙ sound) in
+      let sound : lineUpTo mostWords (lineWith id (tableLines text)) ≡ true = line-with-ok id (tableLines text) (lines-ok text t) has in
+      let fine : ok ≡ true = l .test ∙ (ap (lineUpTo mostWords) (s .line y) ∙ sound) in
       let dev : d ≡ deviceOf (lineWith id (tableLines text)) = l .device fine ∙ ap deviceOf (s .line y) in
       let nam : name ≡ length (field 0 (lineWith id (tableLines text))) = l .named fine ∙ ap (λ x. length (field 0 x)) (s .line y) in
       let start : at ≡ startOf id (tableLines text) = s .start y in
@@ -314,8 +314,8 @@ module _ (text : List ℕ) (id : ℕ) where
       ∙ sym (pick-true (tableOk text) _ _ t ∙ pick-true (hasId id (tableLines text)) _ _ has)
 
 -- the device of a sound line keeps the rules of a record
-line-device : (line : List ℕ) → lineOk line ≡ true → deviceOk (deviceOf line) ≡ true
-unfolding lineOk
+line-device : (line : List ℕ) → lineUpTo mostWords line ≡ true → deviceOk (deviceOf line) ≡ true
+unfolding lineUpTo deviceOk
 line-device line e =
     second-holds
     (eqb (length (split tab line)) 6 && nameOk (field 0 line) && hexOk (field 1 line) && isDecimal (field 2 line) && isDecimal (field 3 line) && hexOk (field 4 line) && hexOk (field 5 line))
@@ -323,7 +323,7 @@ line-device line e =
 
 -- and so does each record that is found
 pub found-sound : (text : List ℕ) (id : ℕ) → tableOk text ≡ true → hasId id (tableLines text) ≡ true → deviceOk (foundIn text id .device) ≡ true
-unfolding foundIn
+unfolding foundIn foundUpTo tableOk
 found-sound text id t has =
     let same : foundIn text id ≡ given (startOf id (tableLines text)) (lineWith id (tableLines text)) = pick-true (tableOk text) _ _ t ∙ pick-true (hasId id (tableLines text)) _ _ has in
     ap (λ x. deviceOk (x .device)) same
@@ -355,4 +355,4 @@ module _ (n : ℕ) (text : List ℕ) (from r : ℕ) (e : r ≡ from + indexOf lf
 
 -- a table without a line
 pub table-empty : 15 ≡ tableNumber []
-table-empty = table-bad [] (unfold tableOk endsInLf lastOf tableLines butLast split in refl)
+table-empty = table-bad [] (unfold tableOk tableUpTo endsInLf lastOf tableLines butLast split in refl)

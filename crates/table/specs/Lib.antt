@@ -2,3 +2,4 @@
 pub mod Table
 pub mod LawsLine
 pub mod LawsTable
+pub mod LawsLimit

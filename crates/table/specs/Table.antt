@@ -10,7 +10,7 @@ use Rattle.numerals.specs.Hex.{within, capitalOf, wordBy}
 use Rattle.numerals.specs.Decimal.{isDecimal, valueOf}
 use Rattle.device.specs.declared.Device.{Device}
 use Rattle.table.specs.declared.Found.{Found}
-use Rattle.device.specs.Record.{deviceOk}
+use Rattle.device.specs.Record.{mostWords, deviceUpTo}
 
 -- ---- lines
 
@@ -59,9 +59,9 @@ deviceOf line =
       mask2 = hexField (field 5 line);
     }
 
--- six fields, each of its kind, and a device that keeps the rules of a record
-unfoldable pub lineOk : List ℕ → Bool
-lineOk line =
+-- six fields, each of its kind, and a device that keeps the rules of a record with so many program words at most
+unfoldable pub lineUpTo : (most : ℕ) → List ℕ → Bool
+lineUpTo most line =
     eqb (length (split tab line)) 6
     && nameOk (field 0 line)
     && hexOk (field 1 line)
@@ -69,7 +69,7 @@ lineOk line =
     && isDecimal (field 3 line)
     && hexOk (field 4 line)
     && hexOk (field 5 line)
-    && deviceOk (deviceOf line)
+    && deviceUpTo most (deviceOf line)
 
 -- the ID that a line gives
 unfoldable pub idOf : List ℕ → ℕ
@@ -85,9 +85,9 @@ tableLines text = butLast (split lf text)
 unfoldable pub endsInLf : List ℕ → Bool
 endsInLf text = eqb (length (lastOf (split lf text))) 0
 
-unfoldable pub allLinesOk : List (List ℕ) → Bool
-allLinesOk [] = true
-allLinesOk (l ∷ ls) = lineOk l && allLinesOk ls
+unfoldable pub linesUpTo : (most : ℕ) → List (List ℕ) → Bool
+linesUpTo most [] = true
+linesUpTo most (l ∷ ls) = lineUpTo most l && linesUpTo most ls
 
 -- one of the lines gives this ID
 unfoldable pub hasId : ℕ → List (List ℕ) → Bool
@@ -103,14 +103,17 @@ idsOnce (l ∷ ls) = not (hasId (idOf l) ls) && idsOnce ls
 abbrev pub mostLines : ℕ
 mostLines = 64
 
--- each line ends in LF, 1 to 64 lines, each a device's, no ID twice
-unfoldable pub tableOk : List ℕ → Bool
-tableOk text =
+-- each line ends in LF, 1 to 64 lines, each a device's with so many program words at most, no ID twice
+unfoldable pub tableUpTo : (most : ℕ) → List ℕ → Bool
+tableUpTo most text =
     endsInLf text
     && leb 1 (length (tableLines text))
     && leb (length (tableLines text)) mostLines
-    && allLinesOk (tableLines text)
+    && linesUpTo most (tableLines text)
     && idsOnce (tableLines text)
+
+unfoldable pub tableOk : List ℕ → Bool
+tableOk text = tableUpTo mostWords text
 
 -- what the call that judges a table answers
 unfoldable pub tableNumber : List ℕ → ℕ
@@ -136,9 +139,13 @@ refused n = record { number = n; device = record { id = 0; words = 0; row = 0; m
 unfoldable pub given : (at : ℕ) → List ℕ → Found
 given at line = record { number = 0; device = deviceOf line; «name_at» = at; «name_len» = length (field 0 line) }
 
--- what the call that finds an ID's record answers
-unfoldable pub foundIn : List ℕ → ℕ → Found
-foundIn text id =
-    unless (tableOk text) (refused 15)
+-- what is found of an ID in a table of devices with so many program words at most
+unfoldable pub foundUpTo : (most : ℕ) → List ℕ → ℕ → Found
+foundUpTo most text id =
+    unless (tableUpTo most text) (refused 15)
     (unless (hasId id (tableLines text)) (refused 16)
     (given (startOf id (tableLines text)) (lineWith id (tableLines text))))
+
+-- what the call that finds an ID's record answers
+unfoldable pub foundIn : List ℕ → ℕ → Found
+foundIn text id = foundUpTo mostWords text id

@@ -15,9 +15,8 @@ use Rattle.words.specs.Word.{erased}
 use Rattle.words.specs.LawsChoice.{pick-true, pick-false}
 use Rattle.words.specs.LawsWord.{words-long, words-each, words-of}
 use Rattle.device.specs.declared.Device.{Device}
-use Rattle.device.specs.Record.{mostWords, deviceOk}
+use Rattle.device.specs.Record.{deviceUpTo}
 use Rattle.device.specs.Memory.{cellsTail, readingTail, readingOk}
-use Rattle.device.specs.LawsRecord.{rules}
 use Rattle.sheet.specs.declared.Written.{Written}
 use Rattle.sheet.specs.Sheet.{sheetText, sheetLength, written, writtenText}
 use Rattle.sheet.specs.LawsSheet.{length-sheet}
@@ -32,6 +31,8 @@ use Rattle.target.specs.LawsRun.{cells-long}
 use Rattle.target.specs.LawsSound.{cells-stay}
 use Rattle.print.specs.Print.{refusedText}
 use Rattle.print.specs.LawsLines.{either-short}
+use Rattle.board.specs.Open.{mostProgram}
+use Rattle.board.specs.LawsOpen.{served-sound, served-most}
 use Rattle.trials.specs.Trial.{mostSteps, cellsOf, played, playedText}
 use Rattle.trials.specs.LawsTyped.{front-is}
 
@@ -47,17 +48,17 @@ blank-rest : (n m : ℕ) → drop n (replicate (n + m) erased) ≡ replicate m e
 blank-rest zero m = ap (λ k. replicate k erased) (zero-add m)
 blank-rest (suc n) m = ap (λ k. drop (suc n) (replicate k erased)) (suc-add n m) ∙ blank-rest n m
 
--- the most cells that a target has
+-- the most cells that the target of a board has
 abbrev pub mostCells : ℕ
-mostCells = mostWords + cellsTail
+mostCells = mostProgram + cellsTail
 
 -- a reading over erased cells
-module _ (d : Device) (sound : deviceOk d ≡ true) (reading : List ℕ) (ok : readingOk (d .words) reading ≡ true) where
+module _ (d : Device) (served : deviceUpTo mostProgram d ≡ true) (reading : List ℕ) (ok : readingOk (d .words) reading ≡ true) where
   reading-long : length reading ≡ d .words + readingTail
   reading-long = unfold readingOk in words-long (d .words + readingTail) reading ok
 
-  few : d .words ≤ mostWords
-  few = rules d sound .most
+  few : d .words ≤ mostProgram
+  few = served-most d served
 
   pub copy-room : length reading ≤ length (replicate mostCells erased)
   copy-room = rw (length-replicate {A = ℕ} mostCells erased, reading-long) (omega (arith, few))
@@ -66,7 +67,7 @@ module _ (d : Device) (sound : deviceOk d ≡ true) (reading : List ℕ) (ok : r
     pub cells-room : d .words + cellsTail ≤ length cells
     cells-room =
         let size : length cells ≡ mostCells = ap length e ∙ (length-sets (replicate mostCells erased) 0 reading ∙ length-replicate {A = ℕ} mostCells erased) in
-        let most : d .words ≤ mostWords = few in
+        let most : d .words ≤ mostProgram = few in
         omega arith
 
     pub cells-part : length (take (d .words + cellsTail) cells) ≡ d .words + cellsTail
@@ -75,16 +76,16 @@ module _ (d : Device) (sound : deviceOk d ≡ true) (reading : List ℕ) (ok : r
     pub cells-are : take (d .words + cellsTail) cells ≡ cellsOf reading
     unfolding cellsOf
     cells-are =
-        let all : mostCells ≡ 0 + length reading + (8194 - d .words) = rw (zero-add, reading-long) (omega (arith, few)) in
-        let two : 2 ≤ 8194 - d .words = omega (arith, few) in
+        let all : mostCells ≡ 0 + length reading + (mostProgram + 2 - d .words) = rw (zero-add, reading-long) (omega (arith, few)) in
+        let two : 2 ≤ mostProgram + 2 - d .words = omega (arith, few) in
         let more : d .words + cellsTail ≡ length reading + 2 = rw reading-long (omega arith) in
         let fits : 0 + length reading ≤ length (replicate mostCells erased) = rw zero-add copy-room in
         let placed : cells ≡ reading ++ drop (0 + length reading) (replicate mostCells erased) = e ∙ sets-eq reading (replicate mostCells erased) 0 fits in
-        let rest : drop (0 + length reading) (replicate mostCells erased) ≡ replicate (8194 - d .words) erased = ap (λ k. drop (0 + length reading) (replicate k erased)) all
-        ∙ blank-rest (0 + length reading) (8194 - d .words) in
+        let rest : drop (0 + length reading) (replicate mostCells erased) ≡ replicate (mostProgram + 2 - d .words) erased = ap (λ k. drop (0 + length reading) (replicate k erased)) all
+        ∙ blank-rest (0 + length reading) (mostProgram + 2 - d .words) in
         ap (take (d .words + cellsTail)) (placed ∙ ap (λ l. reading ++ l) rest)
-        ∙ (ap (λ n. take n (reading ++ replicate (8194 - d .words) erased)) more
-        ∙ (take-append-add reading (replicate (8194 - d .words) erased) 2 ∙ ap (λ l. reading ++ l) (blank-part 2 (8194 - d .words) two)))
+        ∙ (ap (λ n. take n (reading ++ replicate (mostProgram + 2 - d .words) erased)) more
+        ∙ (take-append-add reading (replicate (mostProgram + 2 - d .words) erased) 2 ∙ ap (λ l. reading ++ l) (blank-part 2 (mostProgram + 2 - d .words) two)))
 
 -- a reading and two calibration words are sound cells
 pub cells-sound : (d : Device) (reading : List ℕ) → readingOk (d .words) reading ≡ true → (cells : List ℕ) → cells ≡ cellsOf reading → soundCells (chipOf d) cells ≡ true
@@ -186,11 +187,11 @@ module _ (d : Device) (reading : List ℕ) (ok : readingOk (d .words) reading �
 
 -- ---- the sheet
 
-sheet-most : (d : Device) → deviceOk d ≡ true → sheetLength d ≤ 46135
+sheet-most : (d : Device) → deviceUpTo mostProgram d ≡ true → sheetLength d ≤ 46135
 unfolding sheetLength
-sheet-most d sound = let most : d .words ≤ mostWords = rules d sound .most in omega arith
+sheet-most d served = let most : d .words ≤ mostProgram = served-most d served in omega arith
 
-module _ (d : Device) (sound : deviceOk d ≡ true) (cells : List ℕ) (ok : soundCells (chipOf d) cells ≡ true) where
+module _ (d : Device) (served : deviceUpTo mostProgram d ≡ true) (cells : List ℕ) (ok : soundCells (chipOf d) cells ≡ true) where
   pub sheet-part : d .words + readingTail ≤ length cells
   sheet-part = let l : length cells ≡ d .words + cellsTail = cells-long (chipOf d) cells ok in omega arith
 
@@ -204,14 +205,14 @@ module _ (d : Device) (sound : deviceOk d ≡ true) (cells : List ℕ) (ok : sou
     sheet-is : written d (take (d .words + readingTail) cells) text ≡ record { number = 0; length = sheetLength d }
     unfolding written pick
     sheet-is =
-        let fits : sheetLength d ≤ length text = let m : sheetLength d ≤ 46135 = sheet-most d sound in omega arith in
-        rw (sound, front-sound, le-leb (sheetLength d) (length text) fits)
+        let fits : sheetLength d ≤ length text = let m : sheetLength d ≤ 46135 = sheet-most d served in omega arith in
+        rw (served-sound d served, front-sound, le-leb (sheetLength d) (length text) fits)
 
     pub sheet-long : w .length ≡ sheetLength d
     sheet-long = ap (λ x. x .length) (e ∙ sheet-is)
 
     pub sheet-short : w .length ≤ 46135
-    sheet-short = let m : sheetLength d ≤ 46135 = sheet-most d sound in let l : w .length ≡ sheetLength d = sheet-long in omega arith
+    sheet-short = let m : sheetLength d ≤ 46135 = sheet-most d served in let l : w .length ≡ sheetLength d = sheet-long in omega arith
 
     pub sheet-front : (text′ : List ℕ) → text′ ≡ writtenText d (take (d .words + readingTail) cells) text → take (w .length) text′ ≡ sheetText d (take (d .words + readingTail) cells)
     unfolding writtenText
@@ -220,6 +221,6 @@ module _ (d : Device) (sound : deviceOk d ≡ true) (cells : List ℕ) (ok : sou
         ∙ front-is text (sheetText d (take (d .words + readingTail) cells)) (w .length) (sheet-long ∙ sym (length-sheet d (take (d .words + readingTail) cells)))
         (let m : w .length ≤ 46135 = sheet-short in omega arith)
 
-pub played-short : (d : Device) → deviceOk d ≡ true → (r : Run Target) → length (playedText d r) ≤ 46135
+pub played-short : (d : Device) → deviceUpTo mostProgram d ≡ true → (r : Run Target) → length (playedText d r) ≤ 46135
 unfolding playedText
-played-short d sound r = either-short 46135 (omega arith) (r .number) (r .done + 1) 1 _ (λ z. rw (length-sheet d (take (d .words + readingTail) (r .target .cells))) (sheet-most d sound))
+played-short d served r = either-short 46135 (omega arith) (r .number) (r .done + 1) 1 _ (λ z. rw (length-sheet d (take (d .words + readingTail) (r .target .cells))) (sheet-most d served))

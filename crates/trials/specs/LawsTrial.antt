@@ -11,11 +11,11 @@ use Rattle.words.specs.Choice.{pick}
 use Rattle.words.specs.LawsChoice.{pick-true, pick-false}
 use Rattle.device.specs.declared.Device.{Device}
 use Rattle.device.specs.Memory.{readingTail}
-use Rattle.device.specs.Record.{deviceOk}
+use Rattle.device.specs.Record.{deviceUpTo}
 use Rattle.print.specs.Print.{refusedText}
 use Rattle.print.specs.LawsLines.{refused-short, either-short}
-use Rattle.board.specs.Open.{recordOf, boardNumber, boardReading}
-use Rattle.board.specs.LawsBoard.{Board, board-sound, board-told, board-text}
+use Rattle.board.specs.Open.{mostProgram, recordOf, boardNumber, boardReading}
+use Rattle.board.specs.LawsBoard.{Board, board-served, board-told, board-text}
 use Rattle.trials.specs.Trial.{badLine, streamOf, played, playedText, trialText}
 use Rattle.trials.specs.LawsTyped.{StreamRead, front-is}
 use Rattle.trials.specs.LawsPlayed.{played-short}
@@ -56,9 +56,9 @@ module _ (table sheet stream : List ℕ) (number : ℕ) (e : number ≡ boardNum
 pub trial-short : (table sheet stream : List ℕ) → length (trialText table sheet stream) ≤ 46135
 unfolding trialText
 trial-short table sheet stream =
-    either-short 46135 (omega arith) (boardNumber table sheet) 0 0 _ (λ z. by (eqb (badLine stream) 0) (board-sound table sheet z) (refused-short 34 (badLine stream) 1))
+    either-short 46135 (omega arith) (boardNumber table sheet) 0 0 _ (λ z. by (eqb (badLine stream) 0) (board-served table sheet z) (refused-short 34 (badLine stream) 1))
   where
-    by : (c : Bool) → deviceOk (recordOf table sheet) ≡ true → length (refusedText 34 (badLine stream) 1) ≤ 41
+    by : (c : Bool) → deviceUpTo mostProgram (recordOf table sheet) ≡ true → length (refusedText 34 (badLine stream) 1) ≤ 41
         → length (pick c (playedText (recordOf table sheet) (played (recordOf table sheet) (boardReading table sheet) (streamOf stream))) (refusedText 34 (badLine stream) 1)) ≤ 46135
-    by true sound s = unfold pick in played-short (recordOf table sheet) sound _
-    by false sound s = unfold pick in omega arith
+    by true served s = unfold pick in played-short (recordOf table sheet) served _
+    by false served s = unfold pick in omega arith

@@ -1,8 +1,8 @@
 // A stream played on the model of a board, with room for a word at each step.
 use crate::typed;
+use board::MOST_PROGRAM;
 use device::CELLS_TAIL;
 use device::Device;
-use device::MOST_WORDS;
 use device::READING_TAIL;
 use words::ERASED;
 ghost use mathlib.Core.Path.{_≡_};
@@ -10,23 +10,24 @@ ghost use mathlib.Core.Bool.{true};
 ghost use Prim.Native.Nat.{_+_, _≤_};
 ghost use lib.ListN.{length, take};
 ghost use lib.Seq.{sets};
-ghost use Rattle.device.specs.Record.{deviceOk};
+ghost use Rattle.device.specs.Record.{deviceUpTo};
 ghost use Rattle.device.specs.Memory.{readingTail, readingOk};
 ghost use Rattle.sheet.specs.Sheet.{sheetText};
 ghost use Rattle.target.specs.Chip.{chipOf};
 ghost use Rattle.target.specs.Step.{soundCells};
 ghost use Rattle.print.specs.Print.{Prints};
+ghost use Rattle.board.specs.Open.{mostProgram};
 ghost use Rattle.trials.specs.Trial.{played, playedText};
 
-// The most cells that a target has.
-const MOST_CELLS: usize = (MOST_WORDS as usize) + CELLS_TAIL;
+// The most cells that the target of a board has.
+const MOST_CELLS: usize = (MOST_PROGRAM as usize) + CELLS_TAIL;
 
 // The length of the longest sheet.
 const MOST_SHEET: usize = 46135;
 
 // The text of a run on the cells of a reading, whose calibration words are erased.
 pub(crate) fn put_run(d: Device, reading: &[u16], stream: &[u8], out: &mut [u8]) -> usize
-    requires { ⌜ (deviceOk d ≡ true) × (readingOk (d .words) (now reading) ≡ true) ⌝ }
+    requires { ⌜ (deviceUpTo mostProgram d ≡ true) × (readingOk (d .words) (now reading) ≡ true) ⌝ }
     ensures { λ r. ⌜ Prints (playedText d (played d (now (reading .entry)) (now (stream .entry)))) (now (out .entry)) r (now (out .exit)) ⌝ }
 {
     let mut cells = [ERASED; MOST_CELLS];
@@ -60,7 +61,7 @@ fn copy(from: &[u16], to: &mut [u16])
 
 // The sheet of a target's cells.
 fn put_sheet(d: Device, cells: &[u16], out: &mut [u8]) -> usize
-    requires { ⌜ (deviceOk d ≡ true) × (soundCells (chipOf d) (now cells) ≡ true) ⌝ }
+    requires { ⌜ (deviceUpTo mostProgram d ≡ true) × (soundCells (chipOf d) (now cells) ≡ true) ⌝ }
     ensures { λ r. ⌜ Prints (sheetText d (take (d .words + readingTail) (now (cells .entry)))) (now (out .entry)) r (now (out .exit)) ⌝ }
 {
     let count = (d.words as usize) + READING_TAIL;

@@ -9,7 +9,7 @@ use Rattle.words.specs.Choice.{pick}
 use Rattle.words.specs.Word.{isWord, bit, without, spare, underMask, wordsOf}
 use Rattle.words.specs.Lists.{build, inRange, every}
 use Rattle.words.specs.Address.{entryOf, successor}
-use Rattle.device.specs.Record.{rowOk, wordsOk, deviceOk}
+use Rattle.device.specs.Record.{rowOk, wordsUpTo, deviceUpTo, deviceOk}
 use Rattle.device.specs.Memory.{isConfig, programmable, maskAt, zeroBit}
 use Rattle.plan.specs.Wanted.{known, wanted, differs, some, rowDiffers, idDiffers, configWrites}
 use Rattle.plan.specs.Steps.{walk, loads, setSteps, erasing, rowSteps, rowsFrom, wordSteps, writesFrom, configSteps, taskOf, updateTask}
@@ -27,7 +27,7 @@ use Rattle.worked.specs.Errors.{boardCells, rowsOf, configOf, blankWhere
 -- ---- 3FFFh where the file is silent: the word that the board had is lost
 
 silent-leaves : getD (ran tiny (bytesOf (blankWhereSilent tiny silentImage silentBoard)) 100 (boardCells silentBoard) [] .target .cells) 2 0 ≡ 0x3fff
-unfolding blankWhereSilent pick without spare underMask maskAt isWord bit wordsOf every build inRange entryOf successor rowOk wordsOk deviceOk
+unfolding blankWhereSilent pick without spare underMask maskAt isWord bit wordsOf every build inRange entryOf successor rowOk wordsUpTo deviceUpTo deviceOk
     isConfig zeroBit blank locked edit inProgram idCell configCell atErase rowErased bulkErased beginWritten latchOf burnt entered loadOk load plain
     decoded effect stepEffect soundCells unread codeAt payloadAt onward turn after started runOf runRefusal ran codeOf payloadOf stepBytes bytesOf
     known wanted differs some rowDiffers idDiffers configWrites walk loads setSteps erasing rowSteps rowsFrom wordSteps writesFrom configSteps taskOf
@@ -54,7 +54,7 @@ silent-fails r =
 -- ---- CP before the last row: the row that comes after it is not written, cut or not
 
 config-first-leaves : getD (ran tiny (bytesOf (configFirst tiny protectingImage blankTiny)) 100 (boardCells blankTiny) [] .target .cells) 3 0 ≡ 0x3fff
-unfolding configFirst pick without spare underMask maskAt isWord bit wordsOf every build inRange entryOf successor rowOk wordsOk deviceOk isConfig
+unfolding configFirst pick without spare underMask maskAt isWord bit wordsOf every build inRange entryOf successor rowOk wordsUpTo deviceUpTo deviceOk isConfig
     zeroBit blank locked edit inProgram idCell configCell atErase rowErased bulkErased beginWritten latchOf burnt entered loadOk load plain decoded
     effect stepEffect soundCells unread codeAt payloadAt onward turn after started runOf runRefusal ran codeOf payloadOf stepBytes bytesOf known
     wanted differs some rowDiffers idDiffers configWrites walk loads setSteps erasing rowSteps rowsFrom wordSteps writesFrom configSteps taskOf
@@ -81,7 +81,7 @@ config-first-fails r =
 -- ---- the row of the first loaded word: the model leaves other cells
 
 pub first-row-not-written : same (ran tiny (bytesOf acrossTwo) 100 (boardCells blankTiny) [] .target .cells) firstRowWritten ≡ false
-unfolding same acrossTwo loadsFrom pick without spare underMask maskAt isWord bit wordsOf every build inRange entryOf successor rowOk wordsOk deviceOk
+unfolding same acrossTwo loadsFrom pick without spare underMask maskAt isWord bit wordsOf every build inRange entryOf successor rowOk wordsUpTo deviceUpTo deviceOk
     isConfig zeroBit blank locked edit inProgram idCell configCell atErase rowErased bulkErased beginWritten latchOf burnt entered loadOk load plain
     decoded effect stepEffect soundCells unread codeAt payloadAt onward turn after started runOf runRefusal ran codeOf payloadOf stepBytes bytesOf
 first-row-not-written = refl

@@ -7,7 +7,7 @@ use Rattle.words.specs.Lists.{build, inRange, every}
 use Rattle.numerals.specs.Text.{split, inFront}
 use Rattle.numerals.specs.Hex.{within, digitOf, joined, byteBy}
 use Rattle.words.specs.Address.{placed, halved, entryOf, successor}
-use Rattle.device.specs.Record.{rowOk, wordsOk, deviceOk, idFits}
+use Rattle.device.specs.Record.{rowOk, wordsUpTo, deviceUpTo, deviceOk, idFits}
 use Rattle.device.specs.Memory
 use Rattle.lines.specs.Lines.{withoutCr, allWithoutCr, linesOf}
 use Rattle.hexread.specs.Line.{byteAt, countOf, offsetOf, typeOf, isRecord, bytesTo, sumOk, typeOk, shapeOk, dataOk, lineNumber}
@@ -26,21 +26,21 @@ use Rattle.target.specs.Stream.{codeOf, payloadOf, stepBytes, bytesOf}
 use Rattle.worked.specs.Cases.{same, gives, takes, endAlone, wordZero, configOne, protectedSum, blankSum, oneRow, loadsFrom, acrossRows, cases, allHold}
 
 end-alone : endAlone ≡ true
-unfolding endAlone gives same pick isWord every within digitOf joined byteBy split inFront placed halved entryOf inRange rowOk wordsOk deviceOk bit
+unfolding endAlone gives same pick isWord every within digitOf joined byteBy split inFront placed halved entryOf inRange rowOk wordsUpTo deviceUpTo deviceOk bit
     withoutCr allWithoutCr linesOf byteAt countOf offsetOf typeOf isRecord bytesTo sumOk typeOk shapeOk dataOk lineNumber wordOf byteAddress entryAt
     entryOfWord Memory.isConfig Memory.programmable wordNumber giveWords recordStep lineRefused lineStep blankImage refusedAt readLines Reader.begun
     textRead
 end-alone = refl
 
 word-zero : wordZero ≡ true
-unfolding wordZero gives same pick isWord every within digitOf joined byteBy split inFront placed halved entryOf inRange rowOk wordsOk deviceOk bit
+unfolding wordZero gives same pick isWord every within digitOf joined byteBy split inFront placed halved entryOf inRange rowOk wordsUpTo deviceUpTo deviceOk bit
     withoutCr allWithoutCr linesOf byteAt countOf offsetOf typeOf isRecord bytesTo sumOk typeOk shapeOk dataOk lineNumber wordOf byteAddress entryAt
     entryOfWord Memory.isConfig Memory.programmable wordNumber giveWords recordStep lineRefused lineStep blankImage refusedAt readLines Reader.begun
     textRead
 word-zero = refl
 
 config-one : configOne ≡ true
-unfolding configOne gives same pick isWord every within digitOf joined byteBy split inFront placed halved entryOf inRange rowOk wordsOk deviceOk bit
+unfolding configOne gives same pick isWord every within digitOf joined byteBy split inFront placed halved entryOf inRange rowOk wordsUpTo deviceUpTo deviceOk bit
     withoutCr allWithoutCr linesOf byteAt countOf offsetOf typeOf isRecord bytesTo sumOk typeOk shapeOk dataOk lineNumber wordOf byteAddress entryAt
     entryOfWord Memory.isConfig Memory.programmable wordNumber giveWords recordStep lineRefused lineStep blankImage refusedAt readLines Reader.begun
     textRead
@@ -55,14 +55,14 @@ unfolding blankSum pick bit Memory.zeroBit Memory.protected sumTo configSum nibb
 blank-sum = refl
 
 one-row : oneRow ≡ true
-unfolding oneRow takes pick without spare underMask Memory.maskAt isWord bit every wordsOf rowOk wordsOk deviceOk idFits Memory.isConfig
+unfolding oneRow takes pick without spare underMask Memory.maskAt isWord bit every wordsOf rowOk wordsUpTo deviceUpTo deviceOk idFits Memory.isConfig
     Memory.zeroBit Memory.programmable Memory.entryOk Memory.imageOk Memory.readingOk Memory.protected onlyClears configOk updateNumber known wanted
     differs some rowDiffers idDiffers configWrites inRange walk loads setSteps erasing rowSteps rowsFrom wordSteps writesFrom configSteps bodyOf
     taskOf updateTask updateSteps
 one-row = refl
 
 across-rows : acrossRows ≡ true
-unfolding acrossRows same loadsFrom pick without spare underMask Memory.maskAt isWord bit wordsOf every build inRange entryOf successor rowOk wordsOk
+unfolding acrossRows same loadsFrom pick without spare underMask Memory.maskAt isWord bit wordsOf every build inRange entryOf successor rowOk wordsUpTo deviceUpTo
     deviceOk Memory.isConfig Memory.zeroBit blank locked edit inProgram idCell configCell atErase rowErased bulkErased beginWritten latchOf burnt
     entered loadOk load plain decoded effect stepEffect soundCells unread codeAt payloadAt onward turn after started runOf runRefusal ran codeOf
     payloadOf stepBytes bytesOf

@@ -4,17 +4,23 @@ use crate::device::{find, table, Device};
 use crate::refusal::Refusal;
 use crate::sheet;
 
-/// As many words as the largest reading has.
-pub const READING_MAX: usize = 8_201;
+/// The most program words of a board that the programs take.
+pub const OPENED_MAX: u16 = 8_192;
+/// As many words as the largest reading of such a board has.
+pub const READING_MAX: usize = OPENED_MAX as usize + 9;
 
-/// The device of a sheet's first line: 15, 14 for that line, 16.
+/// The device of a sheet's first line: 15, 14 for that line, 16, 17 where it is too large.
 pub fn record(text: &[u8], sheet: &[u8]) -> Result<Device, Refusal> {
     // A malformed table is told before the sheet is looked at, whatever ID would be asked for.
     if table(text).is_none() {
         return Err(15.into());
     }
     let id = sheet::first_line(sheet).ok_or(14)?;
-    Ok(find(text, id)?.device)
+    let d = find(text, id)?.device;
+    if d.words > OPENED_MAX {
+        return Err(17.into());
+    }
+    Ok(d)
 }
 
 /// Device and reading: the above, then 14 for the rest of the sheet.
@@ -31,7 +37,7 @@ pub fn answered(text: &[u8], sheet: &[u8]) -> Device {
     find(text, id).map_or(Device::NONE, |l| l.device)
 }
 
-/// Opens a board into a buffer of the largest reading: the number; the buffer changes only where that is 0.
+/// Opens a board into a buffer of the largest reading that it may have: the number; the buffer changes only where that is 0.
 pub fn open(text: &[u8], sheet: &[u8], buffer: &mut [u16]) -> u32 {
     match board(text, sheet) {
         Err(refusal) => refusal.number,

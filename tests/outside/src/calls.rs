@@ -1,11 +1,14 @@
 //! Every call that can be asked: its name, the kinds of its fields, the numbers it can give, and our own answer.
 
 use crate::device::{self, Device};
-use crate::field::Kind::{self, Bytes, Latches, Num, Words};
+use crate::field::Kind::{self, Bytes, HexBytes, Latches, Num, Words};
 use crate::field::{self, Field};
 use crate::model::{self, Registers};
 use crate::words as w;
 use crate::{bench, board, hex, judge, print, sheet, streams};
+
+/// The call that reads HEX text.
+pub const HEX_READER: &str = "ihex.read_hex";
 
 /// An answer's fields, and the number that it is counted under.
 pub struct Reply {
@@ -19,6 +22,18 @@ pub struct Call {
     /// The classes that the call can answer: refusal numbers; of a call without these, 0 and 1 as `CLASSES` says.
     pub classes: &'static [u32],
     pub own: fn(&[Field]) -> Reply,
+}
+
+impl Call {
+    /// Whether its fields begin with a device record.
+    pub fn takes_record(&self) -> bool {
+        self.kinds.starts_with(&[Num(16); D])
+    }
+
+    /// Whether it is about a device: a record, or program words and a list.
+    pub fn about_device(&self) -> bool {
+        self.takes_record() || self.kinds == [Num(16), Words]
+    }
 }
 
 /// What 0 and 1 mean for calls that give no refusal numbers.
@@ -53,6 +68,11 @@ impl Request {
     pub fn own(&self) -> Reply {
         (self.call().own)(&self.fields)
     }
+
+    /// The record that it is about, if its call takes one.
+    pub fn device(&self) -> Option<Device> {
+        self.call().takes_record().then(|| device_at(&self.fields))
+    }
 }
 
 /// A request line without its LF, or why it is malformed.
@@ -82,6 +102,7 @@ pub fn parse(line: &[u8]) -> Result<Request, &'static str> {
     })
 }
 
+/// How many fields a record is, and so the place of the first after it.
 const D: usize = 5;
 
 fn device_at(f: &[Field]) -> Device {
@@ -576,8 +597,8 @@ pub static CALLS: &[Call] = &[
         },
     },
     Call {
-        name: "ihex.read_hex",
-        kinds: &[Num(16), Num(16), Num(16), Num(16), Num(16), Bytes, Words],
+        name: HEX_READER,
+        kinds: &[Num(16), Num(16), Num(16), Num(16), Num(16), HexBytes, Words],
         classes: &[0, 1, 2, 3, 4, 5, 6, 7, 8, 9, 10, 11, 12, 13],
         own: |f| {
             let mut image = field::words(f, D + 1).to_vec();
@@ -595,7 +616,7 @@ pub static CALLS: &[Call] = &[
     },
     Call {
         name: "ihex.write_hex",
-        kinds: &[Num(16), Num(16), Num(16), Num(16), Num(16), Words, Bytes],
+        kinds: &[Num(16), Num(16), Num(16), Num(16), Num(16), Words, HexBytes],
         classes: &[0, 13, 20, 26],
         own: |f| {
             let mut out = field::bytes(f, D + 1).to_vec();
@@ -741,19 +762,19 @@ pub static CALLS: &[Call] = &[
     Call {
         name: "board.open_record",
         kinds: &[Bytes, Bytes],
-        classes: &[0, 14, 15, 16],
+        classes: &[0, 14, 15, 16, 17],
         own: open_record,
     },
     Call {
         name: "board.open_board",
         kinds: &[Bytes, Bytes, Num(16)],
-        classes: &[0, 14, 15, 16],
+        classes: &[0, 14, 15, 16, 17],
         own: open_board,
     },
     Call {
         name: "bench.checksum",
         kinds: &[Bytes, Bytes, Bytes],
-        classes: &[0, 14, 15, 16],
+        classes: &[0, 14, 15, 16, 17],
         own: |f| {
             shown(
                 &bench::checksum(field::bytes(f, 0), field::bytes(f, 1)),
@@ -764,7 +785,7 @@ pub static CALLS: &[Call] = &[
     Call {
         name: "bench.verify",
         kinds: &[Bytes, Bytes, Bytes, Bytes],
-        classes: &[0, 14, 15, 16, 40, 41],
+        classes: &[0, 14, 15, 16, 17, 40, 41],
         own: |f| {
             let printed = bench::verify(field::bytes(f, 0), field::bytes(f, 1), field::bytes(f, 2));
             shown(&printed, field::bytes(f, 3))
@@ -773,7 +794,7 @@ pub static CALLS: &[Call] = &[
     Call {
         name: "bench.readback",
         kinds: &[Bytes, Bytes, Bytes],
-        classes: &[0, 14, 15, 16],
+        classes: &[0, 14, 15, 16, 17],
         own: |f| {
             shown(
                 &bench::readback(field::bytes(f, 0), field::bytes(f, 1)),
@@ -784,7 +805,9 @@ pub static CALLS: &[Call] = &[
     Call {
         name: "bench.update",
         kinds: &[Bytes, Bytes, Bytes, Bytes],
-        classes: &[0, 1, 2, 3, 4, 5, 6, 7, 8, 9, 10, 11, 14, 15, 16, 22, 23, 24],
+        classes: &[
+            0, 1, 2, 3, 4, 5, 6, 7, 8, 9, 10, 11, 14, 15, 16, 17, 22, 23, 24,
+        ],
         own: |f| {
             let printed = bench::update(field::bytes(f, 0), field::bytes(f, 1), field::bytes(f, 2));
             shown(&printed, field::bytes(f, 3))
@@ -793,7 +816,7 @@ pub static CALLS: &[Call] = &[
     Call {
         name: "bench.fresh",
         kinds: &[Bytes, Bytes, Bytes, Bytes],
-        classes: &[0, 1, 2, 3, 4, 5, 6, 7, 8, 9, 10, 11, 14, 15, 16, 22],
+        classes: &[0, 1, 2, 3, 4, 5, 6, 7, 8, 9, 10, 11, 14, 15, 16, 17, 22],
         own: |f| {
             let printed = bench::fresh(field::bytes(f, 0), field::bytes(f, 1), field::bytes(f, 2));
             shown(&printed, field::bytes(f, 3))
@@ -802,7 +825,9 @@ pub static CALLS: &[Call] = &[
     Call {
         name: "bench.wanted",
         kinds: &[Bytes, Bytes, Bytes, Bytes],
-        classes: &[0, 1, 2, 3, 4, 5, 6, 7, 8, 9, 10, 11, 14, 15, 16, 22, 23, 24],
+        classes: &[
+            0, 1, 2, 3, 4, 5, 6, 7, 8, 9, 10, 11, 14, 15, 16, 17, 22, 23, 24,
+        ],
         own: |f| {
             let printed = bench::wanted(field::bytes(f, 0), field::bytes(f, 1), field::bytes(f, 2));
             shown(&printed, field::bytes(f, 3))
@@ -811,7 +836,7 @@ pub static CALLS: &[Call] = &[
     Call {
         name: "bench.wanted_fresh",
         kinds: &[Bytes, Bytes, Bytes, Bytes],
-        classes: &[0, 1, 2, 3, 4, 5, 6, 7, 8, 9, 10, 11, 14, 15, 16, 22],
+        classes: &[0, 1, 2, 3, 4, 5, 6, 7, 8, 9, 10, 11, 14, 15, 16, 17, 22],
         own: |f| {
             let printed =
                 bench::wanted_fresh(field::bytes(f, 0), field::bytes(f, 1), field::bytes(f, 2));
@@ -821,7 +846,7 @@ pub static CALLS: &[Call] = &[
     Call {
         name: "bench.trial",
         kinds: &[Bytes, Bytes, Bytes, Bytes],
-        classes: &[0, 14, 15, 16, 30, 31, 33, 34],
+        classes: &[0, 14, 15, 16, 17, 30, 31, 33, 34],
         own: |f| {
             let printed = bench::trial(field::bytes(f, 0), field::bytes(f, 1), field::bytes(f, 2));
             shown(&printed, field::bytes(f, 3))
@@ -830,7 +855,7 @@ pub static CALLS: &[Call] = &[
     Call {
         name: "bench.gather",
         kinds: &[Bytes, Bytes, Bytes, Bytes],
-        classes: &[0, 14, 15, 16, 21],
+        classes: &[0, 14, 15, 16, 17, 21],
         own: |f| {
             let printed = bench::gather(field::bytes(f, 0), field::bytes(f, 1), field::bytes(f, 2));
             shown(&printed, field::bytes(f, 3))
@@ -839,7 +864,7 @@ pub static CALLS: &[Call] = &[
     Call {
         name: "bench.dump",
         kinds: &[Bytes, Bytes, Bytes],
-        classes: &[0, 14, 15, 16, 23],
+        classes: &[0, 14, 15, 16, 17, 23],
         own: |f| {
             shown(
                 &bench::dump(field::bytes(f, 0), field::bytes(f, 1)),

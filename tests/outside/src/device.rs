@@ -4,7 +4,7 @@ use crate::words::{capital_word, decimal, NOT_GIVEN, WORD_MAX};
 use std::ops::Range;
 
 /// The most program words of a device.
-pub const PROGRAM_MAX: u16 = 8_192;
+pub const PROGRAM_MAX: u16 = 32_768;
 /// The most lines of a table.
 pub const LINES_MAX: usize = 64;
 /// CP in configuration word 1: 0 means protected.

@@ -1,8 +1,13 @@
 //! Requests and answers as lines of fields: numbers, bytes, and words of 16 bits.
 
+use crate::model::LATCHES;
+
 /// The longest request line, with its LF.
-pub const LINE_MAX: usize = 1_048_576;
+pub const LINE_MAX: usize = 1_310_720;
+/// The most bytes of a field.
 pub const BYTES_MAX: usize = 262_144;
+/// The most bytes of HEX text, and of the buffer for it, in the two calls that have them: the reader takes one fewer.
+pub const HEX_BYTES_MAX: usize = 524_289;
 pub const WORDS_MAX: usize = 65_536;
 
 #[derive(Clone, Debug, PartialEq, Eq)]
@@ -18,9 +23,24 @@ pub enum Kind {
     /// A number of that many bits.
     Num(u32),
     Bytes,
+    /// HEX text, or the buffer for it.
+    HexBytes,
     Words,
-    /// Exactly 32 words.
+    /// Exactly as many words as there are latches.
     Latches,
+}
+
+impl Kind {
+    /// The most bytes or words of such a field; a number has neither.
+    pub fn most(self) -> usize {
+        match self {
+            Kind::Num(_) => 0,
+            Kind::Bytes => BYTES_MAX,
+            Kind::HexBytes => HEX_BYTES_MAX,
+            Kind::Words => WORDS_MAX,
+            Kind::Latches => LATCHES,
+        }
+    }
 }
 
 impl From<u64> for Field {
@@ -132,14 +152,14 @@ fn number(text: &[u8], bits: u32) -> Option<u64> {
 pub fn parse(text: &[u8], kind: Kind) -> Option<Field> {
     match kind {
         Kind::Num(bits) => number(text, bits).map(Field::Num),
-        Kind::Bytes => {
-            let bytes = values(text, 2, BYTES_MAX)?;
+        Kind::Bytes | Kind::HexBytes => {
+            let bytes = values(text, 2, kind.most())?;
             Some(Field::Bytes(bytes.iter().map(|&b| b as u8).collect()))
         }
-        Kind::Words => values(text, 4, WORDS_MAX).map(Field::Words),
+        Kind::Words => values(text, 4, kind.most()).map(Field::Words),
         Kind::Latches => {
-            let words = values(text, 4, WORDS_MAX)?;
-            (words.len() == 32).then_some(Field::Words(words))
+            let words = values(text, 4, kind.most())?;
+            (words.len() == LATCHES).then_some(Field::Words(words))
         }
     }
 }

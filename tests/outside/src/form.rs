@@ -1,6 +1,7 @@
 //! Requests that are malformed, or only just well formed, and comments: the form itself, asked as raw lines.
 
 use crate::ask::Peer;
+use crate::field::{BYTES_MAX, HEX_BYTES_MAX, LINE_MAX, WORDS_MAX};
 use crate::tally::{cut, Tally};
 
 const TINY: &str = "10752 16 8 16127 16371";
@@ -20,7 +21,7 @@ fn comments() -> Vec<Vec<u8>> {
     .to_vec();
     lines.push(b"#\0\x7F\x80\xFF".to_vec());
     // As long as a line may be with its LF.
-    lines.push([b"#".to_vec(), vec![b'x'; 1_048_576 - 2]].concat());
+    lines.push([b"#".to_vec(), vec![b'x'; LINE_MAX - 2]].concat());
     lines
 }
 
@@ -53,20 +54,41 @@ fn requests() -> Vec<(Vec<u8>, Vec<u8>)> {
         pair(&format!("judge.checksum {TINY} -"), "judge.checksum 21 0"),
     ];
     // As many bytes and words as a field may have.
-    let bytes = "A7".repeat(262_144);
+    let bytes = "A7".repeat(BYTES_MAX);
     lines.push(pair(
-        &format!("words.put {bytes} 262144 0"),
+        &format!("words.put {bytes} {BYTES_MAX} 0"),
         &format!("words.put {bytes}"),
     ));
-    let words = "3FFF".repeat(65_536);
+    let words = "3FFF".repeat(WORDS_MAX);
     lines.push(pair(
-        &format!("words.is_words {words} 65536"),
+        &format!("words.is_words {words} {WORDS_MAX}"),
         "words.is_words 1",
     ));
+    for name in ["ihex.next_line", "ihex.line_from"] {
+        lines.push(pair(
+            &format!("{name} {bytes} 0 0"),
+            &format!("{name} 0 {BYTES_MAX} {} 1", BYTES_MAX + 1),
+        ));
+    }
+    // HEX text has more: a text that is too long by one, and room for one.
+    let (lent, silent) = ("1234".repeat(25), "FFFF".repeat(25));
+    let text = "0A".repeat(HEX_BYTES_MAX);
+    lines.push(pair(
+        &format!("ihex.read_hex {TINY} {text} {lent}"),
+        &format!("ihex.read_hex 1 0 0 {silent}"),
+    ));
+    let end: String = b":00000001FF\n"
+        .iter()
+        .map(|x| format!("{x:02X}"))
+        .collect();
+    lines.push(pair(
+        &format!("ihex.write_hex {TINY} {silent} {text}"),
+        &format!("ihex.write_hex 0 12 {end}{}", &text[end.len()..]),
+    ));
     // A line of exactly the longest length: name, four blanks, `-`, LF and digits.
-    let digits = 1_048_576 - 12 - 4 - 1 - 1;
-    let (a, b) = ("5A".repeat(262_144), "C3".repeat(200_000));
-    let c = "11".repeat(digits / 2 - 262_144 - 200_000);
+    let digits = LINE_MAX - 12 - 4 - 1 - 1;
+    let (a, b) = ("5A".repeat(BYTES_MAX), "C3".repeat(200_000));
+    let c = "11".repeat(digits / 2 - BYTES_MAX - 200_000);
     let text = "refused\t15\t0\t0\n";
     let mut out = c.clone();
     let shown: String = text.bytes().map(|x| format!("{x:02X}")).collect();
@@ -169,22 +191,32 @@ fn malformed() -> Vec<Vec<u8>> {
             "target.step {TINY} {counter} {latches} {code} {payload} - {cells}"
         ));
     }
-    lines.push(format!("words.put {} 0 0", "00".repeat(262_145)));
-    lines.push(format!("words.is_words {} 0", "0000".repeat(65_537)));
+    // A byte or a word more than a field may have. The text of a HEX file is longer in two calls alone.
+    let (more, text) = ("0A".repeat(BYTES_MAX + 1), "0A".repeat(HEX_BYTES_MAX + 1));
+    lines.push(format!("words.put {more} 0 0"));
+    lines.push(format!("words.is_words {} 0", "0000".repeat(WORDS_MAX + 1)));
+    lines.push(format!("ihex.read_hex {TINY} {text} -"));
+    lines.push(format!("ihex.write_hex {TINY} - {text}"));
+    lines.push(format!("ihex.next_line {more} 0 0"));
+    lines.push(format!("ihex.line_from {more} 0 0"));
+    lines.push(format!("sheet.read_sheet {TINY} {more} -"));
+    lines.push(format!("target.run {TINY} - {more} 0 -"));
+    lines.push(format!("plan.read_back {TINY} {more}"));
+    lines.push(format!("bench.update - - {more} -"));
     // One byte more than the longest line, every field of it lawful.
-    let digits = 1_048_577 - 12 - 4 - 1;
+    let digits = LINE_MAX + 1 - 12 - 4 - 1;
     let parts = [
         "5A".repeat(200_000),
         "A5".repeat(100_000),
-        "77".repeat(100_000),
+        "77".repeat(200_000),
     ];
-    let last = "11".repeat(digits / 2 - 400_000);
+    let last = "11".repeat(digits / 2 - 500_000);
     lines.push(format!(
         "bench.verify {} {} {} {last}",
         parts[0], parts[1], parts[2]
     ));
     // A comment of one byte more than the longest line.
-    lines.push(format!("#{}", "x".repeat(1_048_576 - 1)));
+    lines.push(format!("#{}", "x".repeat(LINE_MAX - 1)));
     let mut raw: Vec<Vec<u8>> = lines.into_iter().map(String::into_bytes).collect();
     raw.push(b"words.double 1\0".to_vec());
     raw.push(b"words.double \xFF".to_vec());

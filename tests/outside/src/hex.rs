@@ -5,7 +5,7 @@ use crate::refusal::Refusal;
 use crate::words::{digit, NOT_GIVEN, WORD_MAX};
 
 /// The longest text that the reader takes.
-pub const TEXT_MAX: usize = 131_072;
+pub const TEXT_MAX: usize = 524_288;
 /// The longest text that the programs take.
 pub const PROGRAM_TEXT_MAX: usize = 65_536;
 

@@ -12,6 +12,8 @@ mod form;
 mod gen;
 mod hex;
 mod judge;
+mod large;
+mod largest;
 mod model;
 mod print;
 mod refusal;
@@ -23,7 +25,7 @@ mod words;
 mod worked;
 
 use ask::Peer;
-use calls::{Request, CALLS};
+use calls::{Call, Request, CALLS, HEX_READER};
 use gen::Manner;
 use rng::Rng;
 use std::process::ExitCode;
@@ -44,8 +46,13 @@ outside --mock                        answer requests on standard input with our
 
 /// Inputs aimed at each number of each call: above the hundred that must be seen, since an aim can miss.
 const AIMED: usize = 125;
-/// Inputs aimed at a number that can stand at many columns of a line: enough that most of these are met.
-const AIMED_AT_COLUMNS: [(u32, usize); 4] = [(2, 2_500), (7, 1_000), (8, 1_000), (9, 1_000)];
+/// Inputs of the HEX reader aimed at some numbers. 1 is long and cannot miss; of those that can stand at many columns of a
+/// line there are enough that most columns are met.
+const AIMED_AT_HEX: [(u32, usize); 5] = [(1, 100), (2, 2_500), (7, 1_000), (8, 1_000), (9, 1_000)];
+/// Inputs for large devices, of each number: few, since they are long.
+const LARGE: usize = 3;
+/// Of the HEX reader more for those that a record across 64 KiB can have.
+const LARGE_HEX: usize = 24;
 /// A batch's most requests, and about how many bytes it may have.
 const BATCH: usize = 20_000;
 const BATCH_BYTES: usize = 32 << 20;
@@ -144,10 +151,19 @@ fn manner(call: usize, rng: &mut Rng) -> Manner {
 
 /// How many inputs are aimed at a number of a call.
 fn aims(call: &str, class: u32) -> usize {
-    let many = AIMED_AT_COLUMNS.iter().find(|(number, _)| *number == class);
-    match many {
-        Some((_, count)) if call == "ihex.read_hex" => *count,
+    let special = AIMED_AT_HEX.iter().find(|(number, _)| *number == class);
+    match special {
+        Some((_, count)) if call == HEX_READER => *count,
         _ => AIMED,
+    }
+}
+
+/// How many of them are for a large device, beside the others.
+fn large_aims(call: &Call, class: u32) -> usize {
+    match class {
+        _ if !call.about_device() => 0,
+        0 | 7..=9 if call.name == HEX_READER => LARGE_HEX,
+        _ => LARGE,
     }
 }
 
@@ -175,6 +191,9 @@ fn compare_all(o: &Options, peer: &Peer, tally: &mut Tally) {
         for &class in call.classes {
             for _ in 0..aims(call.name, class) {
                 asker.put(gen::request(i, Manner::Aimed(class), &mut rng));
+            }
+            for _ in 0..large_aims(call, class) {
+                asker.put(gen::request(i, Manner::Large(class), &mut rng));
             }
         }
         for _ in 0..o.cases {
@@ -204,7 +223,7 @@ fn main() -> ExitCode {
     };
     let mut tally = Tally::new();
     worked::check(&peer, &mut tally);
-    if "ihex.read_hex".starts_with(&o.only) && !peer.hung() {
+    if HEX_READER.starts_with(&o.only) && !peer.hung() {
         columns::check(&peer, &mut tally);
     }
     worked::round_trips(&mut Rng::new(o.seed ^ 1), &mut tally);
@@ -219,6 +238,7 @@ fn main() -> ExitCode {
         );
     } else if !peer.hung() {
         form::check(&peer, &mut tally);
+        largest::check(&peer, &mut tally);
         cuts::check(&peer, o.cuts, &mut Rng::new(o.seed ^ 2), &mut tally);
     }
     if peer.hung() {

@@ -1,6 +1,7 @@
 //! What was compared: how often it agreed, which numbers were seen, and the first few differences.
 
-use crate::calls::{Request, CALLS};
+use crate::board::OPENED_MAX;
+use crate::calls::{Request, CALLS, HEX_READER};
 use std::collections::{BTreeMap, BTreeSet};
 
 /// Differences that are shown in full; the others are counted.
@@ -10,9 +11,10 @@ pub const SEEN_AT_LEAST: u64 = 100;
 /// At how many different columns each number that can stand at many must be seen: 2 at every column of a line up to 522,
 /// 7, 8 and 9 at each of 127 words.
 const COLUMNS_AT_LEAST: [(u32, usize); 4] = [(2, 300), (7, 80), (8, 80), (9, 80)];
-/// The call whose refusals stand at those columns, and the field of its answer that has them.
-const LOCATING: &str = "ihex.read_hex";
+/// The field of the HEX reader's answer that has the column.
 const COLUMN: usize = 2;
+/// How often each call that takes a record must be asked about a sound one of more words than the programs take.
+const LARGE_AT_LEAST: u64 = 5;
 /// The longest part of a field that a message shows.
 const CUT: usize = 72;
 
@@ -22,6 +24,7 @@ pub struct Tally {
     failed_of: BTreeMap<&'static str, u64>,
     seen: BTreeMap<(usize, u32), u64>,
     columns: BTreeMap<u32, BTreeSet<u64>>,
+    large: BTreeMap<usize, u64>,
 }
 
 /// A text cut to what a message can bear.
@@ -48,6 +51,7 @@ impl Tally {
             failed_of: BTreeMap::new(),
             seen: BTreeMap::new(),
             columns: BTreeMap::new(),
+            large: BTreeMap::new(),
         }
     }
 
@@ -67,7 +71,13 @@ impl Tally {
         let name = request.call().name;
         let own = request.own();
         *self.seen.entry((request.call, own.class)).or_default() += 1;
-        if name == LOCATING {
+        if request
+            .device()
+            .is_some_and(|d| d.lawful() && d.words > OPENED_MAX)
+        {
+            *self.large.entry(request.call).or_default() += 1;
+        }
+        if name == HEX_READER {
             let columns = self.columns.entry(own.class).or_default();
             columns.insert(crate::field::num(&own.fields, COLUMN));
         }
@@ -106,9 +116,10 @@ impl Tally {
                 format!("{} gave numbers that it has not: {others:?}", call.name)
             });
         }
-        if asked(LOCATING) {
+        if asked(HEX_READER) {
             self.report_columns();
         }
+        self.report_large(asked);
         if !self.failed_of.is_empty() {
             println!("\nanswers that differ, by call");
             for (name, count) in &self.failed_of {
@@ -123,12 +134,29 @@ impl Tally {
         let counts = COLUMNS_AT_LEAST.map(|(number, least)| (number, least, of(number)));
         let line = counts.map(|(number, _, count)| format!(" {number}:{count}"));
         println!(
-            "different columns seen of {LOCATING}, by number{}",
+            "different columns seen of {HEX_READER}, by number{}",
             line.concat()
         );
         for (number, least, count) in counts {
             self.check(count >= least, || {
-                format!("{LOCATING} gave {number} at only {count} different columns")
+                format!("{HEX_READER} gave {number} at only {count} different columns")
+            });
+        }
+    }
+
+    /// How often each call was asked about a sound record of more words than the programs take; too seldom is a failure.
+    fn report_large(&mut self, asked: &dyn Fn(&str) -> bool) {
+        let counts: Vec<(&str, u64)> = CALLS
+            .iter()
+            .enumerate()
+            .filter(|(_, c)| c.takes_record() && asked(c.name))
+            .map(|(i, c)| (c.name, self.large.get(&i).copied().unwrap_or(0)))
+            .collect();
+        let line: String = counts.iter().map(|(n, k)| format!(" {n}:{k}")).collect();
+        println!("asked about devices of more than {OPENED_MAX} words, by call{line}");
+        for (name, count) in counts {
+            self.check(count >= LARGE_AT_LEAST, || {
+                format!("{name} was asked about a large device only {count} times")
             });
         }
     }

@@ -1,15 +1,16 @@
 //! The paper's worked cases and the maker's checksums, written out by hand; round trips of our own implementation.
 
 use crate::ask::Peer;
+use crate::board::OPENED_MAX;
 use crate::calls::{device_fields, Request};
 use crate::device::{is_image, Device};
 use crate::field::{line, Field};
-use crate::gen::{device_of_size, image_for, reading_for};
+use crate::gen::{device_of_size, image_for, large_device, reading_for};
 use crate::model::{self, Run};
 use crate::rng::Rng;
 use crate::tally::{cut, difference, Tally};
 use crate::words::{NOT_GIVEN, WORD_MAX};
-use crate::{bench, device, hex, judge, sheet, streams};
+use crate::{bench, device, hex, judge, large, sheet, streams};
 
 pub const TINY: Device = Device {
     id: 0x2A00,
@@ -25,12 +26,12 @@ const F1459: Device = Device {
     mask1: 0x3EFF,
     mask2: 0x3FF3,
 };
-const TINY_LINE: &[u8] = b"TINY\t2A00\t16\t8\t3EFF\t3FF3\n";
-const END: &str = ":00000001FF\n";
-const CONFIGURED: &str = ":020000040001F9\n:02000E007F3F32\n:00000001FF\n";
+pub const TINY_LINE: &[u8] = b"TINY\t2A00\t16\t8\t3EFF\t3FF3\n";
+pub const END: &str = ":00000001FF\n";
+pub const CONFIGURED: &str = ":020000040001F9\n:02000E007F3F32\n:00000001FF\n";
 
 /// The whole listing of the paper.
-const LISTING: &str = "16\t0000\n00\t7FFE\n06\t0000\n06\t0000\n06\t0000\n06\t0000\n06\t0000\n\
+pub const LISTING: &str = "16\t0000\n00\t7FFE\n06\t0000\n06\t0000\n06\t0000\n06\t0000\n06\t0000\n\
     06\t0000\n06\t0000\n02\t7EFE\n08\t0000\n";
 
 /// A request, and the answer that must come.
@@ -40,7 +41,7 @@ pub struct Case {
     expected: Vec<Field>,
 }
 
-fn case(
+pub fn case(
     what: &str,
     name: &str,
     d: Option<&Device>,
@@ -56,7 +57,7 @@ fn case(
     }
 }
 
-fn number(n: u32) -> Field {
+pub fn number(n: u32) -> Field {
     n.into()
 }
 
@@ -74,7 +75,7 @@ pub fn refused_text(d: &Device, text: &[u8], answer: Answer) -> Case {
 }
 
 /// A HEX text read for a device: number, line, column, and the words it gives.
-fn hex_case(d: &Device, text: &[u8], answer: Answer, given: &[(usize, u16)]) -> Case {
+pub fn hex_case(d: &Device, text: &[u8], answer: Answer, given: &[(usize, u16)]) -> Case {
     // The lent image holds something that no reader writes.
     let lent: Vec<u16> = (0..d.entries()).map(|i| i as u16 ^ 0x5A5A).collect();
     let mut image = vec![NOT_GIVEN; d.entries()];
@@ -495,7 +496,8 @@ fn spare_cases() -> Vec<Case> {
     ]
 }
 
-fn bench_case(what: &str, name: &str, files: &[&[u8]], text: &str) -> Case {
+/// The files of a program, and what it prints.
+pub fn bench_case(what: &str, name: &str, files: &[&[u8]], text: &str) -> Case {
     let lent: Vec<u8> = (0..text.len() + 7).map(|i| i as u8 ^ 0xA5).collect();
     let mut out = lent.clone();
     out[..text.len()].copy_from_slice(text.as_bytes());
@@ -510,13 +512,18 @@ fn bench_case(what: &str, name: &str, files: &[&[u8]], text: &str) -> Case {
     )
 }
 
-fn bench_cases() -> Vec<Case> {
+/// The sheet of TINY's blank board.
+pub fn tiny_sheet() -> String {
     let blank: String = (0..2)
         .map(|l| format!("{:04X}{}\n", 8 * l, "\t3FFF".repeat(8)))
         .collect();
     let head = "\t3FFF".repeat(4);
     let last = format!("8000{head}\t3FFF\t2000\t2A00\t3FFF\t3FFF\n");
-    let board = format!("2A00\n{blank}{last}");
+    format!("2A00\n{blank}{last}")
+}
+
+fn bench_cases() -> Vec<Case> {
+    let board = tiny_sheet();
     let board = board.as_bytes();
     // 0009h and two IDs differ.
     let other = format!(
@@ -704,6 +711,7 @@ fn cases() -> Vec<Case> {
     all.extend([row_case(0), row_case(1), latch_case()]);
     all.extend(spare_cases());
     all.extend(bench_cases());
+    all.extend(large::cases());
     let table: Vec<u8> = b"PIC16F1459\t3023\t8192\t32\t3EFF\t3FF3\n".to_vec();
     let mut found = vec![number(0)];
     found.extend(device_fields(&F1459));
@@ -766,11 +774,12 @@ pub fn hold_all(cases: &[Case], kind: &str, peer: &Peer, tally: &mut Tally) {
     tally.check(ended.is_ok(), || ended.unwrap_err());
 }
 
-/// The device whose sizes the round trips use: the largest now and then.
+/// The device whose sizes the round trips use: now and then the largest that the programs take, or a larger one.
 fn some_device(i: usize, rng: &mut Rng) -> Device {
     match i % 50 {
         0 => F1459,
         1 => device_of_size(256, rng),
+        2 => large_device(rng),
         _ => device_of_size(8, rng),
     }
 }
@@ -806,7 +815,12 @@ fn texts_trip(d: &Device, board: &[u16], image: &[u16], tally: &mut Tally) {
         format!("HEX written and read: {d:?}")
     });
     let whole = bench::whole_image(d, board);
-    let read = hex::image(d, &hex::text(d, &whole), hex::PROGRAM_TEXT_MAX);
+    let most = if d.words > OPENED_MAX {
+        hex::TEXT_MAX
+    } else {
+        hex::PROGRAM_TEXT_MAX
+    };
+    let read = hex::image(d, &hex::text(d, &whole), most);
     tally.check(read == Ok(whole), || format!("a dump read: {d:?}"));
     let read = sheet::reading(d, &sheet::text(d, board));
     tally.check(read.as_deref() == Some(board), || {
@@ -900,10 +914,15 @@ fn fresh_trip(d: &Device, image: &[u16], rng: &mut Rng, tally: &mut Tally) {
     });
 }
 
-/// A printed stream, played, leaves the sheet that was wanted.
+/// A printed stream, played, leaves the sheet that was wanted; a board that is too large has none.
 fn rehearsal_trip(d: &Device, board: &[u16], image: &[u16], tally: &mut Tally) {
     let table = table_line(d).into_bytes();
     let (board, file) = (sheet::text(d, board), hex::text(d, image));
+    if d.words > OPENED_MAX {
+        let number = bench::update(&table, &board, &file).number;
+        tally.check(number == 17, || format!("no 17 but {number}: {d:?}"));
+        return;
+    }
     let stream = bench::update(&table, &board, &file).text;
     let left = bench::trial(&table, &board, &stream).text;
     let wanted = bench::wanted(&table, &board, &file);

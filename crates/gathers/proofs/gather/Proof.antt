@@ -2,7 +2,7 @@
 use mathlib.Core.Path.{sym, _∙_}
 use native.Mathlib.Omega.{arith}
 use Rattle.print.specs.LawsPrint.{prints-as, printed}
-use Rattle.board.specs.LawsOpen.{opened-rules, opened-most}
+use Rattle.board.specs.LawsOpen.{opened-serves, opened-most}
 use Rattle.gathers.specs.LawsGather.{gather-refused, gather-21, gather-found, gather-short}
 use borrow.Author.Needs.{needs}
 use Rattle.gathers.proofs.gather.Statement.{statement}
@@ -46,7 +46,7 @@ returns-2 c = printed _ (gather-short _ _ _) (prints-as _ _ _ _ _ (gather-21 _ _
 
 put-sheet-requires : tie.Need-put-sheet-requires
 put-sheet-requires c κs = (
-  opened-rules _ _ _ (c .before .before .before .before .before .before .before .open-record .ensures .0)
+  opened-serves _ _ _ (c .before .before .before .before .before .before .before .open-record .ensures .0)
       (c .before .before .before .before .before .if1 .left) _ (c .before .before .before .before .before .before .before .open-record .ensures .1),
   sym
       (c .before .before .lines-ok .ensures) ∙ c .before .if2 .taken,

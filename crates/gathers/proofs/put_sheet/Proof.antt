@@ -2,7 +2,7 @@
 use mathlib.Core.Path.{sym}
 use native.Mathlib.Omega.{arith}
 use lib.Seq.{length-take-le}
-use Rattle.device.specs.LawsRecord.{rules}
+use Rattle.board.specs.LawsOpen.{served-most}
 use Rattle.print.specs.LawsPrint.{prints-as}
 use Rattle.gathers.specs.LawsAnswers.{answers-sound}
 use Rattle.gathers.specs.LawsStored.{words-room, words-part, front-room, front-part, sheet-short, sheet-front}
@@ -23,8 +23,7 @@ slice-aggregate-store : tie.Need-slice-aggregate-store
 slice-aggregate-store c = sym (words-part (c .before .before .before .before .args .d) (c .before .before .before .before .pre .0))
 
 store-requires : tie.Need-store-requires
-store-requires c κs = let r = rules (c .before .before .before .before .args .d) (c .before .before .before .before .pre .0) in
-    (omega arith, words-part (c .before .before .before .before .args .d) (c .before .before .before .before .pre .0), answers-sound _ _ (c .before .before .before .before .pre .1))
+store-requires c κs = (served-most (c .before .before .before .before .args .d) (c .before .before .before .before .pre .0), words-part (c .before .before .before .before .args .d) (c .before .before .before .before .pre .0), answers-sound _ _ (c .before .before .before .before .pre .1))
 
 array-share-prefix-words : tie.Need-array-share-prefix-words
 array-share-prefix-words c = front-room (c .before .before .before .before .before .before .args .d) (c .before .before .before .before .before .before .pre .0) _

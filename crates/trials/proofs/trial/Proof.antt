@@ -73,7 +73,7 @@ put-run-requires c κs = (
   (board-opened _ _ _ (c .before .before .before .before .before .before .before .before .before .before .before .before .before .open-board .ensures .0)
       (c .before .before .before .before .before .before .before .before .before .before .before .if1 .left) _
       (c .before .before .before .before .before .before .before .before .before .before .before .before .before .open-board .ensures .1) _
-      (c .before .before .before .before .before .before .before .before .before .before .before .before .before .open-board .ensures .2)) .sound,
+      (c .before .before .before .before .before .before .before .before .before .before .before .before .before .open-board .ensures .2)) .served,
   (board-opened _ _ _
       (c .before .before .before .before .before .before .before .before .before .before .before .before .before .open-board .ensures .0)
       (c .before .before .before .before .before .before .before .before .before .before .before .if1 .left) _

@@ -1,21 +1,33 @@
 //! Inputs for what the programs print, and for the boards that they open.
 
 use super::boards::{
-    also, any_device, bad_first_line, bad_sheet, bad_table, image_for, other_bit, other_spare,
-    reading_for, table_with, table_without,
+    also, bad_first_line, bad_sheet, bad_table, enlarged, image_for, other_bit, other_spare,
+    program_device, reading_for, table_with, table_without,
 };
 use super::plans::{bad_step, put_in, sound_stream, want_a_bit};
 use super::{hexes, lent, number, room};
 use crate::bench as own;
+use crate::calls::Request;
 use crate::device::{Device, CP};
-use crate::field::Field;
+use crate::field::{Field, Kind};
 use crate::hex::PROGRAM_TEXT_MAX;
 use crate::model::{INCREMENT, READ, RESET};
 use crate::rng::Rng;
 use crate::sheet;
 
+/// A number of the program that comes after 17, or 0.
+fn after_17(name: &str, rng: &mut Rng) -> u32 {
+    let call = Request::new(&format!("bench.{name}"), Vec::new()).call();
+    let mut numbers = call.classes.to_vec();
+    numbers.retain(|n| !(15..=17).contains(n));
+    rng.pick(&numbers)
+}
+
 pub fn bench(name: &str, aim: u32, rng: &mut Rng) -> Vec<Field> {
-    let d = any_device(rng);
+    let d = program_device(rng);
+    // A board that is too large has files of a small one, sound or not: no program looks at them.
+    let large = aim == 17;
+    let aim = if large { after_17(name, rng) } else { aim };
     let protected = match (name, aim) {
         ("update" | "wanted", 0 | 24) => false,
         ("update" | "wanted" | "dump", 23) | (_, 41) => true,
@@ -39,8 +51,13 @@ pub fn bench(name: &str, aim: u32, rng: &mut Rng) -> Vec<Field> {
     {
         reading[d.p() + 6] ^= 1 << rng.below(14);
     }
-    let alone = matches!(name, "readback" | "gather");
-    let (table, board) = first_files(&d, &sheet::text(&d, &reading), aim, alone, rng);
+    let text = sheet::text(&d, &reading);
+    let (table, board) = if large {
+        too_large(&d, &text, aim == 14, rng)
+    } else {
+        let alone = matches!(name, "readback" | "gather");
+        first_files(&d, &text, aim, alone, rng)
+    };
     let mut fields: Vec<Field> = vec![table.clone().into(), board.clone().into()];
     let file = third.clone().unwrap_or_default();
     let printed = match name {
@@ -64,19 +81,39 @@ pub fn bench(name: &str, aim: u32, rng: &mut Rng) -> Vec<Field> {
 
 /// Table and sheet to be opened, and what the buffer holds before.
 pub fn board(name: &str, aim: u32, rng: &mut Rng) -> Vec<Field> {
-    let mut d = any_device(rng);
+    let mut d = program_device(rng);
     if rng.chance(30) {
         // A first line that is malformed reads as this ID.
         d.id = 0;
     }
     let reading = reading_for(&d, rng.chance(30), rng);
+    let text = sheet::text(&d, &reading);
     let alone = name == "open_record";
-    let (table, board) = first_files(&d, &sheet::text(&d, &reading), aim, alone, rng);
+    let (table, board) = if aim == 17 {
+        too_large(&d, &text, rng.chance(30), rng)
+    } else {
+        first_files(&d, &text, aim, alone, rng)
+    };
     let mut fields: Vec<Field> = vec![table.into(), board.into()];
     if !alone {
         fields.push(number(16, rng).into());
     }
     fields
+}
+
+/// A table that has the board as too large a device, and its sheet, or what begins like one.
+fn too_large(d: &Device, text: &[u8], bad_rest: bool, rng: &mut Rng) -> (Vec<u8>, Vec<u8>) {
+    let large = enlarged(d, rng);
+    let first = text[..5].to_vec();
+    let board = match rng.below(40) {
+        // A sound sheet of so large a board: seldom, since it is long.
+        0 => sheet::text(&large, &reading_for(&large, rng.chance(30), rng)),
+        1..=8 => first,
+        9..=12 => [first, lent(40, rng)].concat(),
+        _ if bad_rest => bad_sheet(d, text, rng),
+        _ => text.to_vec(),
+    };
+    (table_with(&large, rng), board)
 }
 
 /// Table and sheet, with 14, 15 or 16 in them where that is aimed at.
@@ -88,6 +125,8 @@ fn first_files(
     rng: &mut Rng,
 ) -> (Vec<u8>, Vec<u8>) {
     let known = table_with(d, rng);
+    // What comes before 17 comes for a large board as well.
+    let any_size = if rng.chance(40) { enlarged(d, rng) } else { *d };
     match aim {
         15 => {
             let board = if rng.chance(30) {
@@ -95,7 +134,7 @@ fn first_files(
             } else {
                 text.to_vec()
             };
-            (bad_table(d, rng), board)
+            (bad_table(&any_size, rng), board)
         }
         16 => {
             let board = if rng.chance(40) {
@@ -103,13 +142,13 @@ fn first_files(
             } else {
                 text.to_vec()
             };
-            (table_without(d, rng), board)
+            (table_without(&any_size, rng), board)
         }
         14 if line_alone || rng.chance(40) => {
             let table = if rng.chance(30) {
-                table_without(d, rng)
+                table_without(&any_size, rng)
             } else {
-                known
+                table_with(&any_size, rng)
             };
             (table, bad_first_line(text, rng))
         }
@@ -134,7 +173,8 @@ fn hex_file(d: &Device, reading: &mut [u16], aim: u32, rng: &mut Rng) -> Vec<u8>
         14..=16 if rng.chance(30) => rng.pick(&[2, 3, 10]),
         _ => 0,
     };
-    hexes::text(d, &image, lines, PROGRAM_TEXT_MAX, rng)
+    let limits = (PROGRAM_TEXT_MAX, Kind::Bytes);
+    hexes::text(d, &image, lines, limits, rng)
 }
 
 fn wanted_file(d: &Device, reading: &[u16], aim: u32, rng: &mut Rng) -> Vec<u8> {

@@ -1,8 +1,9 @@
 //! Inputs about boards: devices, tables, readings, images, sheets.
 
 use super::{lent, lent_words, number, room};
+use crate::board::OPENED_MAX;
 use crate::calls::device_fields;
-use crate::device::{Device, CP};
+use crate::device::{Device, CP, PROGRAM_MAX};
 use crate::field::Field;
 use crate::rng::Rng;
 use crate::sheet as own;
@@ -22,7 +23,7 @@ fn mask(family: u16, rng: &mut Rng) -> u16 {
 /// A lawful device with at most so many rows; `rows` is not 0.
 pub fn device_of_size(rows: usize, rng: &mut Rng) -> Device {
     let row = rng.pick(&[8u16, 16, 32]);
-    let most = rows.min(8_192 / usize::from(row));
+    let most = rows.min(usize::from(PROGRAM_MAX / row));
     let words = row * rng.between(1, most) as u16;
     Device {
         id: rng.word(),
@@ -43,15 +44,55 @@ pub fn roomy_device(rng: &mut Rng) -> Device {
     }
 }
 
-/// A lawful device, mostly a small one, now and then the largest.
-pub fn any_device(rng: &mut Rng) -> Device {
+/// A lawful device that the programs take, mostly a small one, now and then their largest.
+pub fn program_device(rng: &mut Rng) -> Device {
     match rng.below(200) {
         0 => Device {
-            words: 8_192,
+            words: OPENED_MAX,
             ..device_of_size(1, rng)
         },
         1..=6 => device_of_size(64, rng),
         _ => device_of_size(5, rng),
+    }
+}
+
+/// The device with more program words than the programs take: often as many as there can be, at times the first number
+/// above theirs.
+pub fn enlarged(d: &Device, rng: &mut Rng) -> Device {
+    let rows = |words: u16| usize::from(words / d.row);
+    let (least, most) = (rows(OPENED_MAX) + 1, rows(PROGRAM_MAX));
+    let rows = match rng.below(8) {
+        0..=3 => most,
+        4 => most - 1,
+        5 => least,
+        _ => rng.between(least, most),
+    };
+    Device {
+        words: d.row * rows as u16,
+        ..*d
+    }
+}
+
+/// A lawful device of more words than the programs take.
+pub fn large_device(rng: &mut Rng) -> Device {
+    enlarged(&device_of_size(1, rng), rng)
+}
+
+/// A lawful device; a large one seldom, since its lists are long.
+pub fn any_device(rng: &mut Rng) -> Device {
+    if rng.below(1_000) == 0 {
+        large_device(rng)
+    } else {
+        program_device(rng)
+    }
+}
+
+/// A lawful device where nothing but its record is told, so that a large one costs nothing.
+fn told_device(rng: &mut Rng) -> Device {
+    if rng.chance(25) {
+        large_device(rng)
+    } else {
+        program_device(rng)
     }
 }
 
@@ -65,7 +106,13 @@ pub fn unlawful(d: &Device, rng: &mut Rng) -> Device {
                 1 => bad.row = rng.pick(&[0, 1, 2, 4, 7, 9, 24, 31, 33, 48, 64, 256, 65_535]),
                 2 => bad.words = 0,
                 3 => bad.words = bad.words.wrapping_add(rng.between(1, 7) as u16),
-                4 => bad.words = rng.pick(&[8_193, 8_200, 8_224, 16_384, 32_768, 65_504]),
+                // Above the most words, by a row or by far; and just above it, or the programs', in no multiple of R.
+                4 => {
+                    bad.words = rng.pick(&[
+                        32_776, 32_784, 32_800, 40_000, 40_960, 49_152, 65_504, 65_528, 65_535,
+                        32_769, 8_193,
+                    ])
+                }
                 5 => bad.mask1 &= !CP,
                 6 => bad.mask1 |= 0x4000 << rng.below(2),
                 7 => bad.mask2 |= 0x4000 << rng.below(2),
@@ -217,7 +264,8 @@ fn table_lines(d: &Device, rng: &mut Rng) -> Vec<Vec<u8>> {
             if i == place {
                 return table_line(&name(rng), d);
             }
-            let mut other = any_device(rng);
+            // Also larger than the programs take: only the board's own line counts for that.
+            let mut other = told_device(rng);
             while ids.contains(&other.id) {
                 other.id = rng.word();
             }
@@ -282,7 +330,7 @@ pub fn bad_table(d: &Device, rng: &mut Rng) -> Vec<u8> {
         2 => {
             let twice = rng.below(lines.len() + 1);
             let id = line.split(|&c| c == b'\t').nth(1).expect("an ID").to_vec();
-            let other = table_line(b"again", &any_device(rng));
+            let other = table_line(b"again", &told_device(rng));
             lines.insert(twice, with_field(&other, 1, &id));
         }
         3 => {
@@ -314,15 +362,14 @@ pub fn bad_table(d: &Device, rng: &mut Rng) -> Vec<u8> {
         12 => lines[at] = [&line[..line.len() - 1], b"\t\n"].concat(),
         13 | 14 => lines[at] = table_line(&name(rng), &unlawful(d, rng)),
         15 => {
-            // P again after 16, 32 or 64 bits, and R after as many.
-            let more: u128 = 1 << rng.pick(&[8, 16, 32, 64]);
-            let words = u128::from(d.words) + more;
-            let row = u128::from(d.row) + more;
-            lines[at] = if rng.chance(50) {
-                with_field(&line, 2, words.to_string().as_bytes())
+            // P again after 15, 16, 32 or 64 bits, and R after 8 or as many.
+            let (field, number, bits) = if rng.chance(50) {
+                (2, d.words, rng.pick(&[15, 16, 32, 64]))
             } else {
-                with_field(&line, 3, row.to_string().as_bytes())
+                (3, d.row, rng.pick(&[8, 16, 32, 64]))
             };
+            let again = u128::from(number) + (1u128 << bits);
+            lines[at] = with_field(&line, field, again.to_string().as_bytes());
         }
         16 => {
             let text: &[u8] =
@@ -348,8 +395,11 @@ pub fn bad_table(d: &Device, rng: &mut Rng) -> Vec<u8> {
     lines.concat()
 }
 
-pub fn device(name: &str, aim: u32, rng: &mut Rng) -> Vec<Field> {
-    let d = any_device(rng);
+pub fn device(name: &str, aim: u32, d: Device, rng: &mut Rng) -> Vec<Field> {
+    let d = match name {
+        "is_image" | "is_reading" | "is_protected" => d,
+        _ => told_device(rng),
+    };
     match name {
         "judge" if aim == 13 => device_fields(&unlawful(&d, rng)),
         "judge" => device_fields(&d),
@@ -365,7 +415,7 @@ pub fn device(name: &str, aim: u32, rng: &mut Rng) -> Vec<Field> {
             let high = aim == 16 && rng.chance(10);
             vec![table.into(), (d.id | if high { 0x8000 } else { 0 }).into()]
         }
-        "is_reading" => is_reading(aim == 1, rng),
+        "is_reading" => is_reading(d, aim == 1, rng),
         "is_protected" => {
             let mut list = reading_for(&d, aim == 1, rng);
             match rng.below(4) {
@@ -386,7 +436,7 @@ pub fn device(name: &str, aim: u32, rng: &mut Rng) -> Vec<Field> {
             fields.push(if aim == 1 { d.id } else { other_id(&d, rng) }.into());
             fields
         }
-        _ => is_image(aim == 1, rng),
+        _ => is_image(d, aim == 1, rng),
     }
 }
 
@@ -450,9 +500,8 @@ fn place(d: &Device, yes: bool, rng: &mut Rng) -> (u16, u64) {
     (words, i as u64)
 }
 
-fn is_reading(yes: bool, rng: &mut Rng) -> Vec<Field> {
-    let mut d = any_device(rng);
-    if rng.chance(20) {
+fn is_reading(mut d: Device, yes: bool, rng: &mut Rng) -> Vec<Field> {
+    if d.words <= OPENED_MAX && rng.chance(20) {
         d.words = rng.below(50) as u16;
     }
     let mut reading = reading_for(&d, false, rng);
@@ -462,9 +511,8 @@ fn is_reading(yes: bool, rng: &mut Rng) -> Vec<Field> {
     vec![d.words.into(), reading.into()]
 }
 
-fn is_image(yes: bool, rng: &mut Rng) -> Vec<Field> {
-    let mut d = any_device(rng);
-    if rng.chance(20) {
+fn is_image(mut d: Device, yes: bool, rng: &mut Rng) -> Vec<Field> {
+    if d.words <= OPENED_MAX && rng.chance(20) {
         // The call is about a list's form: any number of program words will do.
         d.words = if rng.chance(90) {
             rng.below(50) as u16
@@ -493,8 +541,7 @@ pub fn also(aim: u32, earlier: &[u32], rng: &mut Rng) -> bool {
     earlier.contains(&aim) && rng.chance(30)
 }
 
-pub fn judge(name: &str, aim: u32, rng: &mut Rng) -> Vec<Field> {
-    let d = any_device(rng);
+pub fn judge(name: &str, aim: u32, d: Device, rng: &mut Rng) -> Vec<Field> {
     let protected =
         aim == 41 || (aim != 0 && rng.chance(40)) || (name == "checksum" && rng.chance(50));
     let mut reading = reading_for(&d, protected, rng);
@@ -629,8 +676,7 @@ fn with_id(text: &[u8], id: u16) -> Vec<u8> {
     [format!("{id:04X}").into_bytes(), text[4..].to_vec()].concat()
 }
 
-pub fn sheet(name: &str, aim: u32, rng: &mut Rng) -> Vec<Field> {
-    let d = any_device(rng);
+pub fn sheet(name: &str, aim: u32, d: Device, rng: &mut Rng) -> Vec<Field> {
     let mut reading = reading_for(&d, rng.chance(30), rng);
     if rng.chance(20) {
         // 8006h is not held against the record here.

@@ -1,12 +1,13 @@
 //! Inputs for the HEX reader and writer.
 
-use super::boards::{also, any_device, image_for, reading_for, record, roomy_device, spoil_image};
+use super::boards::{also, image_for, reading_for, record, roomy_device, spoil_image};
 use super::{lent, lent_words, room};
+use crate::board::OPENED_MAX;
 use crate::device::Device;
-use crate::field::Field;
+use crate::field::{Field, Kind};
 use crate::hex as own;
 use crate::rng::Rng;
-use crate::words::NOT_GIVEN;
+use crate::words::{CONFIG, NOT_GIVEN};
 
 /// A line's text without its end.
 type Line = Vec<u8>;
@@ -46,7 +47,9 @@ fn placed(word: u32, words: &[u16], upper: &mut Option<u16>, rng: &mut Rng) -> V
 fn image_lines(d: &Device, image: &[u16], rng: &mut Rng) -> Vec<Line> {
     let p = d.p();
     let address = |i: usize| if i < p { i } else { 0x8000 + i - p } as u32;
-    let most = rng.pick(&[1, 4, 8, 8, 127]);
+    // A record a word would make a large device's text too long.
+    let least = if d.words > OPENED_MAX { 4 } else { 1 };
+    let most = rng.pick(&[least, 4, 8, 8, MOST_WORDS]);
     let mut pieces: Vec<(u32, Vec<u16>)> = Vec::new();
     for i in (0..image.len()).filter(|&i| image[i] != NOT_GIVEN) {
         match pieces.last_mut() {
@@ -183,8 +186,12 @@ fn own_kind(line: &[u8]) -> Option<u32> {
 /// A word address that no file may give, and how many lawful words stand just before it.
 fn nowhere(d: &Device, rng: &mut Rng) -> (u32, u32) {
     let p = u32::from(d.words);
-    match rng.below(16) {
-        0..=6 => (p, p.min(MOST_WORDS as u32 - 1)),
+    // Where configuration space follows at once, a record that runs past the program words is refused at 8004h.
+    let meet = d.words == CONFIG;
+    let first = if meet { 0x8004 } else { p };
+    match rng.below(18) {
+        _ if meet && rng.chance(50) => (first, MOST_WORDS as u32 - 1),
+        0..=6 => (first, first.min(MOST_WORDS as u32 - 1)),
         7 => (0x8004, 4),
         8 => (0x8009, 2),
         9 => (0x8005, 0),
@@ -197,6 +204,9 @@ fn nowhere(d: &Device, rng: &mut Rng) -> (u32, u32) {
         ),
         13 => (0x1_8000 + rng.pick(&[0, 3, 7, 8]), 0),
         14 => (0x7FFF_FFFF - rng.below(8) as u32, 0),
+        _ if meet => (0x8009 + rng.below(0x100) as u32, 0),
+        // The word before 64 KiB: a record may run on into configuration space.
+        15 => (0x7FFF, 0),
         _ => (rng.between(d.p(), 0x7FFF) as u32, 0),
     }
 }
@@ -212,6 +222,12 @@ fn neighbours(d: &Device, rng: &mut Rng) -> (u32, usize) {
             (0x8007, 2),
             (0x8008, 1),
         ]);
+    }
+    if d.words == CONFIG && rng.chance(60) {
+        // Across 64 KiB: the last program words, and user IDs.
+        let ids = rng.between(1, 4);
+        let program = rng.between(1, MOST_WORDS - ids);
+        return (u32::from(CONFIG) - program as u32, program + ids);
     }
     let most = d.p().min(MOST_WORDS);
     let count = rng.pick(&[1, 2, 3, most, most, most, most, most]).min(most);
@@ -346,8 +362,14 @@ fn pad(text: Vec<u8>, length: usize, rng: &mut Rng) -> Vec<u8> {
     }
 }
 
-/// A text that the reader should answer with the number; `most` is the longest it may have.
-pub fn text(d: &Device, image: &[u16], aim: u32, most: usize, rng: &mut Rng) -> Vec<u8> {
+/// A text that the reader should answer with the number; `most` is the longest it may have, in a field of that kind.
+pub fn text(
+    d: &Device,
+    image: &[u16],
+    aim: u32,
+    (most, kind): (usize, Kind),
+    rng: &mut Rng,
+) -> Vec<u8> {
     let mut lines = image_lines(d, image, rng);
     // A text that is too long may have a bad line as well.
     let fault = match aim {
@@ -389,10 +411,12 @@ pub fn text(d: &Device, image: &[u16], aim: u32, most: usize, rng: &mut Rng) -> 
         }
     }
     let text = join(&lines, rng);
-    match rng.below(300) {
+    // The longer they are, the more seldom.
+    let seldom = 300 * most / own::PROGRAM_TEXT_MAX;
+    match rng.below(seldom) {
         _ if aim == 1 && rng.chance(70) => pad(text, most + 1, rng),
         _ if aim == 1 => {
-            let length = most + rng.between(1, 600);
+            let length = rng.between(most + 1, kind.most().min(most + 600));
             pad(text, length, rng)
         }
         0 => pad(text, most, rng),
@@ -405,24 +429,31 @@ pub fn text(d: &Device, image: &[u16], aim: u32, most: usize, rng: &mut Rng) -> 
     }
 }
 
-pub fn ihex(name: &str, aim: u32, rng: &mut Rng) -> Vec<Field> {
+pub fn ihex(name: &str, aim: u32, d: Device, rng: &mut Rng) -> Vec<Field> {
     if name == "next_line" || name == "line_from" {
         return super::texts::next_line(aim == 1, rng);
     }
     let d = match aim {
-        7..=9 if rng.chance(60) => roomy_device(rng),
-        _ => any_device(rng),
+        7..=9 if d.words <= OPENED_MAX && rng.chance(60) => roomy_device(rng),
+        _ => d,
     };
     let reading = reading_for(&d, rng.chance(30), rng);
     let mut image = image_for(&d, &reading, rng);
+    if d.words == CONFIG && !(7..=9).contains(&aim) && rng.chance(70) {
+        // Words on both sides of 64 KiB, so that records run across.
+        let first = d.p() - rng.between(1, MOST_WORDS);
+        let end = d.p() + rng.between(1, 4);
+        image[first..end].fill_with(|| rng.word());
+    }
     let mut fields = record(&d, aim, rng);
     if name == "read_hex" {
         let text_aim = match aim {
-            12 | 13 if rng.chance(8) => 1,
+            12 | 13 if rng.chance(3) => 1,
             12 | 13 => rng.pick(&[0, 0, 2, 10]),
             _ => aim,
         };
-        let text = text(&d, &image, text_aim, own::TEXT_MAX, rng);
+        let limits = (own::TEXT_MAX, Kind::HexBytes);
+        let text = text(&d, &image, text_aim, limits, rng);
         let mut length = d.entries();
         if aim == 12 || also(aim, &[13], rng) {
             length = rng.pick(&[0, 9, length - 1, length + 1, length + 2, d.p()]);

@@ -7,16 +7,20 @@ mod plans;
 mod texts;
 
 use crate::calls::{Request, CALLS};
-use crate::field::{Field, Kind, BYTES_MAX, LINE_MAX, WORDS_MAX};
+use crate::device::Device;
+use crate::field::{Field, Kind, LINE_MAX};
 use crate::rng::Rng;
+use boards::any_device;
 
-pub use boards::{device_of_size, image_for, reading_for};
+pub use boards::{device_of_size, image_for, large_device, reading_for};
 
 /// How an input is made.
 #[derive(Clone, Copy, Debug)]
 pub enum Manner {
     /// Built so that the call should answer that number.
     Aimed(u32),
+    /// The same, for a device of more words than the programs take.
+    Large(u32),
     /// Built for a number of the call, then damaged in that many places.
     Damaged(usize),
     /// Nothing but random fields.
@@ -27,7 +31,8 @@ pub enum Manner {
 pub fn request(call: usize, manner: Manner, rng: &mut Rng) -> Request {
     let kinds = CALLS[call].kinds;
     let fields = match manner {
-        Manner::Aimed(aim) => aimed(call, aim, rng),
+        Manner::Aimed(aim) => aimed(call, aim, any_device(rng), rng),
+        Manner::Large(aim) => aimed(call, aim, large_device(rng), rng),
         Manner::Damaged(places) => {
             // Mostly sound input, so that the damage decides.
             let aim = if rng.chance(70) {
@@ -35,7 +40,7 @@ pub fn request(call: usize, manner: Manner, rng: &mut Rng) -> Request {
             } else {
                 rng.pick(CALLS[call].classes)
             };
-            let mut fields = aimed(call, aim, rng);
+            let mut fields = aimed(call, aim, any_device(rng), rng);
             for _ in 0..places {
                 damage(&mut fields, kinds, rng);
             }
@@ -51,22 +56,24 @@ pub fn request(call: usize, manner: Manner, rng: &mut Rng) -> Request {
     request
 }
 
-fn aimed(call: usize, aim: u32, rng: &mut Rng) -> Vec<Field> {
+/// The fields of a request for the device, if the call is about one. The programs' boards have devices of their own, since
+/// a large one is refused before anything else is looked at.
+fn aimed(call: usize, aim: u32, d: Device, rng: &mut Rng) -> Vec<Field> {
     let name = CALLS[call].name;
     let (group, rest) = name.split_once('.').expect("a name in two parts");
     match group {
         "words" => texts::words(rest, aim, rng),
-        "device" => boards::device(rest, aim, rng),
-        "judge" => boards::judge(rest, aim, rng),
-        "sheet" => boards::sheet(rest, aim, rng),
-        "ihex" => hexes::ihex(rest, aim, rng),
-        "target" => plans::target(rest, aim, rng),
-        "plan" => plans::plan(rest, aim, rng),
+        "device" => boards::device(rest, aim, d, rng),
+        "judge" => boards::judge(rest, aim, d, rng),
+        "sheet" => boards::sheet(rest, aim, d, rng),
+        "ihex" => hexes::ihex(rest, aim, d, rng),
+        "target" => plans::target(rest, aim, d, rng),
+        "plan" => plans::plan(rest, aim, d, rng),
         "print" => texts::print(rest, aim == 1, rng),
         "board" => benches::board(rest, aim, rng),
         "lent" if rest == "first_number" => texts::first_number(aim == 1, rng),
         "lent" if rest == "third_line" => texts::third_line(aim == 1, rng),
-        "lent" => plans::target("step", aim, rng),
+        "lent" => plans::target("step", aim, d, rng),
         _ => benches::bench(rest, aim, rng),
     }
 }
@@ -122,9 +129,9 @@ fn random(kind: Kind, rng: &mut Rng) -> Field {
     };
     match kind {
         Kind::Num(bits) => number(bits, rng).into(),
-        Kind::Bytes => rng.bytes(n).into(),
+        Kind::Bytes | Kind::HexBytes => rng.bytes(n).into(),
         Kind::Words => rng.entries(n).into(),
-        Kind::Latches => rng.entries(32).into(),
+        Kind::Latches => rng.entries(kind.most()).into(),
     }
 }
 
@@ -141,11 +148,10 @@ fn damage(fields: &mut [Field], kinds: &[Kind], rng: &mut Rng) {
     } else {
         rng.pick(&lists)
     };
-    let latches = kinds[i] == Kind::Latches;
     match (&mut fields[i], kinds[i]) {
         (Field::Num(n), Kind::Num(bits)) => damage_number(n, bits, rng),
-        (Field::Bytes(b), _) => damage_bytes(b, rng),
-        (Field::Words(w), _) => damage_words(w, latches, rng),
+        (Field::Bytes(b), kind) => damage_bytes(b, kind.most(), rng),
+        (Field::Words(w), kind) => damage_words(w, kind, rng),
         (other, kind) => panic!("{other:?} is not of kind {kind:?}"),
     }
 }
@@ -167,14 +173,14 @@ fn damage_number(n: &mut u64, bits: u32, rng: &mut Rng) {
 /// Characters that mean something to one of the texts, and their neighbours.
 const TELLING: &[u8] = b"\t\n\r :0123789AFGafg/@`\x00\x1F~\x7F\x80\xFF";
 
-fn damage_bytes(b: &mut Vec<u8>, rng: &mut Rng) {
+fn damage_bytes(b: &mut Vec<u8>, most: usize, rng: &mut Rng) {
     let at = rng.below(b.len() + 1);
     let new = if rng.chance(60) {
         rng.pick(TELLING)
     } else {
         rng.byte()
     };
-    let grow = b.len() < BYTES_MAX;
+    let grow = b.len() < most;
     match rng.below(9) {
         0 | 1 if at < b.len() => b[at] = new,
         2 if at < b.len() => b[at] ^= 1 << rng.below(8),
@@ -190,7 +196,7 @@ fn damage_bytes(b: &mut Vec<u8>, rng: &mut Rng) {
             // A line, or some other piece, twice.
             let end = (at + rng.below(50)).min(b.len());
             let piece = b[at.min(end)..end].to_vec();
-            if b.len() + piece.len() <= BYTES_MAX {
+            if b.len() + piece.len() <= most {
                 b.splice(at..at, piece);
             }
         }
@@ -200,7 +206,8 @@ fn damage_bytes(b: &mut Vec<u8>, rng: &mut Rng) {
     }
 }
 
-fn damage_words(w: &mut Vec<u16>, fixed: bool, rng: &mut Rng) {
+fn damage_words(w: &mut Vec<u16>, kind: Kind, rng: &mut Rng) {
+    let fixed = kind == Kind::Latches;
     let new = match rng.below(3) {
         0 => rng.pick(&[
             0, 1, 0x3FFE, 0x3FFF, 0x4000, 0x4001, 0x7FFF, 0x8000, 0xFFFE, 0xFFFF,
@@ -216,7 +223,7 @@ fn damage_words(w: &mut Vec<u16>, fixed: bool, rng: &mut Rng) {
         4 if !fixed && inside => {
             w.remove(at);
         }
-        5 if !fixed && w.len() < WORDS_MAX => w.insert(at, new),
+        5 if !fixed && w.len() < kind.most() => w.insert(at, new),
         6 if !fixed => w.truncate(at),
         _ if inside => w[at] = w[at].wrapping_add(1),
         _ => {}

@@ -1,9 +1,8 @@
 //! Inputs for the model and for the planners.
 
-use super::boards::{
-    also, any_device, device_of_size, image_for, reading_for, record, spoil_image, spoil_words,
-};
+use super::boards::{also, image_for, reading_for, record, spoil_image, spoil_words};
 use super::{lent, lent_words, number, room};
+use crate::board::OPENED_MAX;
 use crate::device::{Device, CP};
 use crate::field::Field;
 use crate::model::{
@@ -61,8 +60,10 @@ fn bad_payload(code: u8, rng: &mut Rng) -> u16 {
 
 /// A counter near a place where something begins or ends.
 fn counter(d: &Device, rng: &mut Rng) -> u16 {
-    match rng.below(8) {
+    match rng.below(9) {
         0..=2 => rng.below(d.p()) as u16,
+        // The last row, and what comes after it.
+        8 => d.words - 1 - rng.below(d.r()) as u16,
         3 => d.words + rng.below(2 * d.r()) as u16,
         4 | 5 => 0x8000 + rng.below(12) as u16,
         6 => rng.pick(&[0x7FFE, 0x7FFF, 0xFFFE, 0xFFFF, 0x8000, 0]),
@@ -77,8 +78,7 @@ fn cells(d: &Device, rng: &mut Rng) -> Vec<u16> {
     cells
 }
 
-fn step(aim: u32, rng: &mut Rng) -> Vec<Field> {
-    let d = any_device(rng);
+fn step(aim: u32, d: Device, rng: &mut Rng) -> Vec<Field> {
     let mut cells = cells(&d, rng);
     // The latches past R are carried and never looked at.
     let mut latches: Vec<u16> = (0..32)
@@ -204,7 +204,8 @@ pub fn sound_stream(d: &Device, rng: &mut Rng) -> Vec<u8> {
         _ => {}
     }
     let mut stream = Vec::new();
-    if rng.chance(1) {
+    // Far more often for a large device, whose last row is near there.
+    if rng.chance(if d.words > OPENED_MAX { 40 } else { 1 }) {
         // All the way to where a space wraps.
         push(&mut stream, rng.pick(&[RESET, LOAD_CONFIGURATION]), 0);
         for _ in 0..rng.between(0x7FFA, 0x8002) {
@@ -274,8 +275,7 @@ fn reads(stream: &[u8]) -> usize {
     stream.chunks(3).filter(|s| s[0] == READ).count()
 }
 
-fn run(aim: u32, rng: &mut Rng) -> Vec<Field> {
-    let d = any_device(rng);
+fn run(aim: u32, d: Device, rng: &mut Rng) -> Vec<Field> {
     let mut cells = cells(&d, rng);
     let mut stream = sound_stream(&d, rng);
     let mut through = stream.len() / 3;
@@ -325,11 +325,11 @@ fn run(aim: u32, rng: &mut Rng) -> Vec<Field> {
     fields
 }
 
-pub fn target(name: &str, aim: u32, rng: &mut Rng) -> Vec<Field> {
+pub fn target(name: &str, aim: u32, d: Device, rng: &mut Rng) -> Vec<Field> {
     if name == "step" {
-        step(aim, rng)
+        step(aim, d, rng)
     } else {
-        run(aim, rng)
+        run(aim, d, rng)
     }
 }
 
@@ -353,8 +353,7 @@ pub fn want_a_bit(d: &Device, image: &mut [u16], reading: &mut [u16], rng: &mut 
     }
 }
 
-fn update(aim: u32, rng: &mut Rng) -> Vec<Field> {
-    let d = any_device(rng);
+fn update(aim: u32, d: Device, rng: &mut Rng) -> Vec<Field> {
     let mut reading = reading_for(&d, false, rng);
     let mut image = image_for(&d, &reading, rng);
     let needed = own::update_stream(&d, &own::wanted_over(&d, &image, &reading), &reading).len();
@@ -380,8 +379,7 @@ fn update(aim: u32, rng: &mut Rng) -> Vec<Field> {
     fields
 }
 
-fn fresh(aim: u32, rng: &mut Rng) -> Vec<Field> {
-    let d = any_device(rng);
+fn fresh(aim: u32, d: Device, rng: &mut Rng) -> Vec<Field> {
     let reading = reading_for(&d, rng.chance(50), rng);
     let mut image = image_for(&d, &reading, rng);
     let needed = own::fresh_stream(&d, &own::wanted_blank(&d, &image)).len();
@@ -405,8 +403,7 @@ fn fresh(aim: u32, rng: &mut Rng) -> Vec<Field> {
 
 /// An entry that the image gives, or one that it does not, also past either list's end. Nothing is judged: entries and masks may have
 /// more bits than a word, and the record may have other program words than the lists.
-fn wanted(aim: u32, rng: &mut Rng) -> Vec<Field> {
-    let mut d = any_device(rng);
+fn wanted(aim: u32, mut d: Device, rng: &mut Rng) -> Vec<Field> {
     let mut reading = reading_for(&d, rng.chance(30), rng);
     let mut image = image_for(&d, &reading, rng);
     let mut at = if rng.chance(50) {
@@ -452,7 +449,7 @@ fn wanted(aim: u32, rng: &mut Rng) -> Vec<Field> {
     } else {
         at as u64
     };
-    if rng.chance(20) {
+    if d.words <= OPENED_MAX && rng.chance(20) {
         // The entry may be a configuration word by this record alone.
         let words = at.saturating_sub(rng.pick(&[7, 8])) as u16;
         let any = rng.u16();
@@ -463,17 +460,12 @@ fn wanted(aim: u32, rng: &mut Rng) -> Vec<Field> {
     fields
 }
 
-pub fn plan(name: &str, aim: u32, rng: &mut Rng) -> Vec<Field> {
+pub fn plan(name: &str, aim: u32, d: Device, rng: &mut Rng) -> Vec<Field> {
     match name {
-        "update" => update(aim, rng),
-        "fresh" => fresh(aim, rng),
-        "wanted" => wanted(aim, rng),
+        "update" => update(aim, d, rng),
+        "fresh" => fresh(aim, d, rng),
+        "wanted" => wanted(aim, d, rng),
         _ => {
-            let d = if rng.chance(99) {
-                device_of_size(8, rng)
-            } else {
-                any_device(rng)
-            };
             let needed = own::read_back_stream(&d).len();
             let short = aim == 26 || also(aim, &[13], rng);
             let length = room(needed, short, rng);

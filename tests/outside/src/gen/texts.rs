@@ -51,7 +51,12 @@ fn halve(nothing: bool, rng: &mut Rng) -> u64 {
 /// Base, program words and tail: mostly the family's.
 fn shape(rng: &mut Rng) -> (u16, u16, u8) {
     if rng.chance(60) {
-        (0x8000, 8 * rng.between(1, 1024) as u16, rng.pick(&[9, 11]))
+        let rows = match rng.below(4) {
+            0 => rng.pick(&[1_024, 4_096]),
+            1 => rng.between(1, 4_096),
+            _ => rng.between(1, 1_024),
+        };
+        (0x8000, 8 * rows as u16, rng.pick(&[9, 11]))
     } else {
         (
             number(16, rng) as u16,
@@ -142,7 +147,7 @@ fn put(count: usize, bits: u32, nothing: bool, rng: &mut Rng) -> Vec<Field> {
 
 fn decimal(nothing: bool, rng: &mut Rng) -> Vec<Field> {
     let bound = match rng.below(4) {
-        0 => rng.pick(&[0, 1, 9, 10, 32, 64, 8_192, 65_535]),
+        0 => rng.pick(&[0, 1, 9, 10, 32, 64, 8_192, 32_768, 65_535]),
         1 => u32::MAX - rng.below(12) as u32,
         _ => number(32, rng) as u32,
     };
@@ -178,10 +183,10 @@ fn decimal(nothing: bool, rng: &mut Rng) -> Vec<Field> {
 }
 
 fn is_words(yes: bool, rng: &mut Rng) -> Vec<Field> {
-    let length = if rng.chance(97) {
-        rng.below(40)
-    } else {
-        rng.below(9_000)
+    let length = match rng.below(400) {
+        0 => rng.between(32_760, 32_780),
+        1..=12 => rng.below(9_000),
+        _ => rng.below(40),
     };
     let mut list: Vec<u16> = (0..length).map(|_| rng.word()).collect();
     let mut n = length as u64;

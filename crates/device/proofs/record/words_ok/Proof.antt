@@ -1,5 +1,5 @@
 -- A multiple, not below a row, not above the most.
-use Rattle.device.specs.Record.{wordsOk}
+use Rattle.device.specs.Record.{wordsUpTo}
 use Rattle.words.specs.LawsChoice.{tests}
 use borrow.Author.Needs.{needs}
 use Rattle.device.proofs.record.words_ok.Statement.{statement}
@@ -9,15 +9,15 @@ rem-if1 : tie.Need-rem-if1
 rem-if1 c = search needs
 
 returns : tie.Need-returns
-unfolding wordsOk
+unfolding wordsUpTo
 returns c = search (tests, needs)
 
 returns-2 : tie.Need-returns-2
-unfolding wordsOk
+unfolding wordsUpTo
 returns-2 c = search (tests, needs)
 
 returns-3 : tie.Need-returns-3
-unfolding wordsOk
+unfolding wordsUpTo
 returns-3 c = search (tests, needs)
 
 pub words-ok-spec : {M : Type 1} → statement M

@@ -113,7 +113,7 @@ put-planned-requires c κs =
     let o = c .before .before .before .before .before .before .before .before .before .before .before .before .before .open-board .ensures in
     let z = c .before .before .before .before .before .before .before .before .before .before .before .if1 .left in
     let b = board-opened _ _ _ (o .0) z _ (o .1) _ (o .2) in
-    (b .sound, b .good)
+    (b .served, b .good)
 
 same-length-4 : tie.Need-same-length-4
 same-length-4 c = search needs

@@ -1,7 +1,7 @@
 -- The record is refused, or what the planner answered is printed.
 use mathlib.Core.Path.{sym, _∙_}
 use Rattle.print.specs.LawsPrint.{prints-as, printed}
-use Rattle.board.specs.LawsOpen.{opened-rules}
+use Rattle.board.specs.LawsOpen.{opened-serves}
 use Rattle.listings.specs.LawsPlanned.{plan-ready, read-back-few, readback-refused, readback-found}
 use Rattle.listings.specs.LawsBounds.{readback-short}
 use borrow.Author.Needs.{needs}
@@ -33,10 +33,10 @@ slice-aggregate-put-plan c = search needs
 put-plan-requires : tie.Need-put-plan-requires
 put-plan-requires c κs = (
   (plan-ready _ _ (read-back-few _
-      (opened-rules _ _ _ (c .before .before .before .before .before .before .before .before .open-record .ensures .0)
+      (opened-serves _ _ _ (c .before .before .before .before .before .before .before .before .open-record .ensures .0)
       (c .before .before .before .before .before .before .if1 .left) _ (c .before .before .before .before .before .before .before .before .open-record .ensures .1))) _ _
       (c .before .before .before .read-back .ensures)) .within,
-  (plan-ready _ _ (read-back-few _ (opened-rules _ _ _ (c .before .before .before .before .before .before .before .before .open-record .ensures .0)
+  (plan-ready _ _ (read-back-few _ (opened-serves _ _ _ (c .before .before .before .before .before .before .before .before .open-record .ensures .0)
       (c .before .before .before .before .before .before .if1 .left) _ (c .before .before .before .before .before .before .before .before .open-record .ensures .1))) _ _
       (c .before .before .before .read-back .ensures)) .short,
 )
@@ -46,7 +46,7 @@ same-length-2 c = search needs
 
 returns-2 : tie.Need-returns-2
 returns-2 c = printed _ (readback-short _ _) (prints-as _ _ _ _ _
-    ((plan-ready _ _ (read-back-few _ (opened-rules _ _ _
+    ((plan-ready _ _ (read-back-few _ (opened-serves _ _ _
     (c .before .before .before .before .before .before .before .before .before .before .before .open-record .ensures .0)
     (c .before .before .before .before .before .before .before .before .before .if1 .left) _
     (c .before .before .before .before .before .before .before .before .before .before .before .open-record .ensures .1))) _ _
@@ -54,7 +54,7 @@ returns-2 c = printed _ (readback-short _ _) (prints-as _ _ _ _ _
     (sym (c .before .before .before .before .before .before .before .before .before .before .before .open-record .ensures .0)
     ∙ c .before .before .before .before .before .before .before .before .before .if1 .left) _
     (c .before .before .before .before .before .before .before .before .before .before .before .open-record .ensures .1)
-    (opened-rules _ _ _ (c .before .before .before .before .before .before .before .before .before .before .before .open-record .ensures .0)
+    (opened-serves _ _ _ (c .before .before .before .before .before .before .before .before .before .before .before .open-record .ensures .0)
     (c .before .before .before .before .before .before .before .before .before .if1 .left) _
     (c .before .before .before .before .before .before .before .before .before .before .before .open-record .ensures .1))) (c .before .before .put-plan .ensures))
 
