@@ -13,12 +13,9 @@ open-record-requires : tie.Need-open-record-requires
 open-record-requires c κs = search needs
 
 returns : tie.Need-returns
-returns c = (
-  kept-refused _ _ _ (c .before .before .open-record .ensures .0) (c .if1 .taken),
-  c .before .before .open-record .ensures .1,
-  kept-buffer _ _ _
-      (kept-refused _ _ _ (c .before .before .open-record .ensures .0) (c .if1 .taken)) (c .if1 .taken) _,
-)
+returns c =
+    let number = kept-refused _ _ _ (c .before .before .open-record .ensures .0) (λ z. omega (arith, z, c .if1 .taken)) in
+    (number, c .before .before .open-record .ensures .1, kept-buffer _ _ _ number (λ z. omega (arith, z, c .if1 .taken)) _)
 
 read-front-requires : tie.Need-read-front-requires
 read-front-requires c κs = omega (
