@@ -13,17 +13,24 @@ use borrow.Author.Tests.{eq-eqb, ne-eqb}
 use Rattle.words.specs.Choice.{pick}
 use Rattle.words.specs.LawsChoice.{pick-true, pick-false}
 use Rattle.device.specs.declared.Device.{Device}
-use Rattle.device.specs.Record.{mostWords, deviceUpTo, deviceOk}
+use Rattle.device.specs.Record.{deviceUpTo, deviceOk}
 use Rattle.device.specs.Memory.{readingTail, readingOk}
-use Rattle.device.specs.LawsRecord.{rules-up-to}
 use Rattle.sheet.specs.Sheet.{sheetOk, wordsIn, readNumber, readBuffer}
 use Rattle.sheet.specs.LawsSheet.{length-words, read-sound}
 use Rattle.board.specs.Open.{mostProgram, recordOf, openNumber, boardNumber, boardReading, openedReading}
-use Rattle.board.specs.LawsOpen.{opened-sound, opened-served, read-number, sheet-words}
+use Rattle.board.specs.LawsOpen.{served-most, opened-sound, opened-served, read-number, sheet-words}
 
 -- the most words that the reading of a board has
 abbrev pub mostReading : ℕ
 mostReading = mostProgram + readingTail
+
+-- a buffer of so many words has room for the reading of a device that the programs serve
+module _ (d : Device) (served : deviceUpTo mostProgram d ≡ true) (v : ℕ) where
+  pub served-room : d .words + readingTail ≤ length (replicate mostReading v)
+  served-room = let few : d .words ≤ mostProgram = served-most d served in rw (length-replicate {A = ℕ} mostReading v) (omega arith)
+
+  pub served-long : length (take (d .words + readingTail) (replicate mostReading v)) ≡ d .words + readingTail
+  served-long = length-take-le (d .words + readingTail) (replicate mostReading v) served-room
 
 module _ (table sheet : List ℕ) where
   -- ---- the number
@@ -73,7 +80,7 @@ module _ (table sheet : List ℕ) where
     keeps = ap deviceOk is ∙ opened-sound table sheet z
 
     pub read-room : d .words + readingTail ≤ length before
-    read-room = let most : d .words ≤ mostProgram = rules-up-to mostProgram d (ap (deviceUpTo mostProgram) is ∙ opened-served table sheet z) .most in omega arith
+    read-room = let most : d .words ≤ mostProgram = served-most d (ap (deviceUpTo mostProgram) is ∙ opened-served table sheet z) in omega arith
 
     front-long : length (take (d .words + readingTail) before) ≡ d .words + readingTail
     front-long = length-take-le (d .words + readingTail) before read-room
@@ -140,7 +147,7 @@ module _ (table sheet : List ℕ) (number : ℕ) (e : number ≡ boardNumber tab
         serves = ap (deviceUpTo mostProgram) is ∙ board-served table sheet zero-is
 
         few : d .words ≤ mostProgram
-        few = rules-up-to mostProgram d serves .most
+        few = served-most d serves
 
         stored : reading ≡ sets before 0 (boardReading table sheet)
         stored = f ∙ (unfold openedReading in pick-true _ _ _ (eq-eqb (boardNumber table sheet) 0 zero-is))
@@ -184,7 +191,7 @@ board-opened table sheet number e z d is reading f = board-in table sheet number
 -- another local buffer of the most words has room for a reading too
 module _ (table sheet : List ℕ) (d : Device) (reading : List ℕ) (b : Board table sheet d reading) (v : ℕ) where
   pub other-room : d .words + readingTail ≤ length (replicate mostReading v)
-  other-room = let few : d .words ≤ mostProgram = b .most in rw (length-replicate {A = ℕ} mostReading v) (omega arith)
+  other-room = served-room d (b .served) v
 
   pub other-long : length (take (d .words + readingTail) (replicate mostReading v)) ≡ d .words + readingTail
-  other-long = length-take-le (d .words + readingTail) (replicate mostReading v) other-room
+  other-long = served-long d (b .served) v

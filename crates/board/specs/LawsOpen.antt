@@ -17,7 +17,7 @@ use Rattle.device.specs.LawsRecord.{rules-up-to, other-limit, more-words}
 use Rattle.device.specs.Memory.{readingTail}
 use Rattle.table.specs.LawsTable.{found-sound}
 use Rattle.sheet.specs.declared.Line1.{Line1}
-use Rattle.sheet.specs.Sheet.{firstLine, sheetOk, wordsIn, readNumber, readBuffer}
+use Rattle.sheet.specs.Sheet.{firstLine, sheetLength, sheetOk, wordsIn, readNumber, readBuffer}
 use Rattle.board.specs.Open.{mostProgram, recordOf, openNumber}
 
 -- the number of the search by itself
@@ -107,6 +107,11 @@ module _ (d : Device) (served : deviceUpTo mostProgram d ≡ true) where
 
   pub served-most : d .words ≤ mostProgram
   served-most = rules-up-to mostProgram d served .most
+
+  -- how long its sheet is at most
+  pub served-sheet : sheetLength d ≤ 46135
+  unfolding sheetLength
+  served-sheet = let most : d .words ≤ mostProgram = served-most in omega arith
 
 -- ---- a record that was found
 

@@ -15,9 +15,8 @@ use Rattle.sheet.specs.LawsSheet.{length-sheet}
 use Rattle.print.specs.Print.{refusedText}
 use Rattle.print.specs.LawsLines.{either-short}
 use Rattle.board.specs.Open.{recordOf, openNumber}
-use Rattle.board.specs.LawsOpen.{opened-served}
+use Rattle.board.specs.LawsOpen.{served-sheet, opened-served}
 use Rattle.gathers.specs.Gather.{answersIn, answersOk, gatherNumber, gatherText}
-use Rattle.gathers.specs.LawsStored.{sheet-most}
 
 module _ (table sheet answers : List ℕ) where
   -- a text of a refused number
@@ -67,4 +66,4 @@ module _ (table sheet answers : List ℕ) where
   gather-short =
       either-short 46135 (omega arith) (gatherNumber table sheet answers) 0 0 _
       (λ z. rw (length-sheet (recordOf table sheet) (answersIn (recordOf table sheet .words) answers))
-      (sheet-most (recordOf table sheet) (opened-served table sheet (record-there z))))
+      (served-sheet (recordOf table sheet) (opened-served table sheet (record-there z))))

@@ -21,8 +21,7 @@ use Rattle.sheet.specs.declared.Written.{Written}
 use Rattle.sheet.specs.Sheet.{sheetText, sheetLength, written, writtenText}
 use Rattle.sheet.specs.LawsSheet.{length-sheet}
 use Rattle.board.specs.Open.{mostProgram}
-use Rattle.board.specs.LawsOpen.{served-sound, served-most}
-use Rattle.board.specs.LawsBoard.{mostReading}
+use Rattle.board.specs.LawsOpen.{served-sound, served-sheet}
 use Rattle.gathers.specs.Gather.{answersIn, answersOk}
 use Rattle.gathers.specs.LawsAnswers.{length-in, answer-in, answers-sound}
 
@@ -59,17 +58,7 @@ module _ (t l : List ℕ) where
 
 -- ---- the sheet
 
-pub sheet-most : (d : Device) → deviceUpTo mostProgram d ≡ true → sheetLength d ≤ 46135
-unfolding sheetLength
-sheet-most d served = let most : d .words ≤ mostProgram = served-most d served in omega arith
-
 module _ (d : Device) (served : deviceUpTo mostProgram d ≡ true) where
-  pub words-room : d .words + readingTail ≤ length {A = ℕ} (replicate mostReading 0)
-  words-room = let few : d .words ≤ mostProgram = served-most d served in rw (length-replicate {A = ℕ} mostReading 0) (omega arith)
-
-  pub words-part : length {A = ℕ} (take (d .words + readingTail) (replicate mostReading 0)) ≡ d .words + readingTail
-  words-part = length-take-le (d .words + readingTail) (replicate mostReading 0) words-room
-
   -- the words at the front of a longer list
   module _ (t : List ℕ) (ok : answersOk (d .words) t ≡ true) (words rest : List ℕ) (e : words ≡ answersIn (d .words) t) where
     count : length words ≡ d .words + readingTail
@@ -89,7 +78,7 @@ module _ (d : Device) (served : deviceUpTo mostProgram d ≡ true) where
 
     module _ (w : Written) (f : w ≡ written d (take (d .words + readingTail) (words ++ rest)) (replicate 46135 0)) where
       room : sheetLength d ≤ length {A = ℕ} (replicate 46135 0)
-      room = rw (length-replicate {A = ℕ} 46135 0) (sheet-most d served)
+      room = rw (length-replicate {A = ℕ} 46135 0) (served-sheet d served)
 
       is : written d (take (d .words + readingTail) (words ++ rest)) (replicate 46135 0) ≡ record { number = 0; length = sheetLength d }
       unfolding written pick
@@ -99,7 +88,7 @@ module _ (d : Device) (served : deviceUpTo mostProgram d ≡ true) where
       long = ap (λ x. x .length) (f ∙ is)
 
       pub sheet-short : w .length ≤ 46135
-      sheet-short = rw long (sheet-most d served)
+      sheet-short = rw long (served-sheet d served)
 
       pub sheet-front : (text : List ℕ) → text ≡ writtenText d (take (d .words + readingTail) (words ++ rest)) (replicate 46135 0) → take (w .length) text ≡ sheetText d (answersIn (d .words) t)
       unfolding writtenText

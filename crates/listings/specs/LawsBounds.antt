@@ -15,14 +15,13 @@ use Rattle.sheet.specs.Sheet.{sheetText}
 use Rattle.sheet.specs.LawsSheet.{length-sheet}
 use Rattle.print.specs.LawsLines.{either-short}
 use Rattle.board.specs.Open.{mostProgram, recordOf, openNumber, boardNumber}
-use Rattle.board.specs.LawsOpen.{opened-served}
+use Rattle.board.specs.LawsOpen.{served-sheet, opened-served}
 use Rattle.board.specs.LawsBoard.{board-served}
 use Rattle.listings.specs.Streams.{streamText, planText, hexOf, readbackText, updateText, freshText}
 use Rattle.listings.specs.Wanteds.{leftText, wantedText, wantedFreshText}
 use Rattle.listings.specs.LawsStreams.{mostStream}
 use Rattle.listings.specs.LawsPlanned.{read-back-few}
 use Rattle.listings.specs.LawsPlans.{update-few, fresh-few}
-use Rattle.listings.specs.LawsLeft.{sheet-most}
 
 -- the longest printed stream: a line of eight for each of 18,454 steps
 abbrev pub mostPrinted : ℕ
@@ -55,7 +54,7 @@ plan-short number s few = either-short mostPrinted (omega arith) number 0 0 (str
 
 left-short : (number : ℕ) (d : Device) → deviceUpTo mostProgram d ≡ true → (reading : List ℕ) → length (leftText number d reading) ≤ mostLeft
 unfolding leftText
-left-short number d served reading = either-short mostLeft (omega arith) number 0 0 (sheetText d reading) (λ z. rw (length-sheet d reading) (sheet-most d served))
+left-short number d served reading = either-short mostLeft (omega arith) number 0 0 (sheetText d reading) (λ z. rw (length-sheet d reading) (served-sheet d served))
 
 -- ---- the programs
 

@@ -6,7 +6,7 @@ use mathlib.Core.Path.{_≡_, sym, ap, _∙_}
 use mathlib.Core.Bool.{Bool, true, false}
 use mathlib.Core.List.{List, [], _++_}
 use lib.Dec.{eqb}
-use lib.ListN.{length, getD, set, take, replicate, length-append, length-replicate}
+use lib.ListN.{length, getD, set, take, length-append}
 use lib.Seq.{sets, sets-eq, take-at, length-take-le}
 use borrow.Author.Tests.{eq-eqb, ne-eqb, le-leb}
 use Rattle.words.specs.Choice.{pick}
@@ -29,8 +29,7 @@ use Rattle.plan.specs.LawsAccepted.{accepted, accepted-fresh}
 use Rattle.plan.specs.LawsPlanWanted.{update-source, fresh-source}
 use Rattle.print.specs.Print.{refusedText}
 use Rattle.board.specs.Open.{mostProgram}
-use Rattle.board.specs.LawsOpen.{served-sound, served-most}
-use Rattle.board.specs.LawsBoard.{mostReading}
+use Rattle.board.specs.LawsOpen.{served-sound, served-sheet}
 use Rattle.listings.specs.Wanteds.{leftText}
 use Rattle.listings.specs.LawsPlans.{planNumber, knownTo}
 
@@ -132,24 +131,12 @@ pub left-refused : (number : ℕ) (d : Device) (reading : List ℕ) → (number 
 unfolding leftText
 left-refused number d reading n = sym (pick-false (eqb number 0) _ _ (ne-eqb number 0 n))
 
--- a local buffer of the most words has room
-module _ (d : Device) (served : deviceUpTo mostProgram d ≡ true) where
-  pub fill-room : d .words + readingTail ≤ length {A = ℕ} (replicate mostReading 0)
-  fill-room = let few : d .words ≤ mostProgram = served-most d served in rw (length-replicate {A = ℕ} mostReading 0) (omega arith)
-
-  pub fill-part : length {A = ℕ} (take (d .words + readingTail) (replicate mostReading 0)) ≡ d .words + readingTail
-  fill-part = length-take-le {A = ℕ} (d .words + readingTail) (replicate mostReading 0) fill-room
-
 -- ---- the sheet of a reading
-
-pub sheet-most : (d : Device) → deviceUpTo mostProgram d ≡ true → sheetLength d ≤ 46135
-unfolding sheetLength
-sheet-most d served = let most : d .words ≤ mostProgram = served-most d served in omega arith
 
 module _ (d : Device) (served : deviceUpTo mostProgram d ≡ true) (reading : List ℕ) (ok : readingOk (d .words) reading ≡ true) (text : List ℕ) (long : length text ≡ 46135)
     (w : Written) (e : w ≡ written d reading text) where
   fits : sheetLength d ≤ length text
-  fits = let m : sheetLength d ≤ 46135 = sheet-most d served in omega arith
+  fits = let m : sheetLength d ≤ 46135 = served-sheet d served in omega arith
 
   sheet-is : written d reading text ≡ record { number = 0; length = sheetLength d }
   unfolding written pick
@@ -159,7 +146,7 @@ module _ (d : Device) (served : deviceUpTo mostProgram d ≡ true) (reading : Li
   sheet-long = ap (λ x. x .length) (e ∙ sheet-is)
 
   pub sheet-short : w .length ≤ 46135
-  sheet-short = let m : sheetLength d ≤ 46135 = sheet-most d served in let l : w .length ≡ sheetLength d = sheet-long in omega arith
+  sheet-short = let m : sheetLength d ≤ 46135 = served-sheet d served in let l : w .length ≡ sheetLength d = sheet-long in omega arith
 
   pub sheet-whole : (text′ : List ℕ) → text′ ≡ writtenText d reading text → take (w .length) text′ ≡ sheetText d reading
   unfolding writtenText

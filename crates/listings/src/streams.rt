@@ -7,7 +7,7 @@ ghost use Rattle.print.specs.LawsPrint.{Wrote};
 ghost use Rattle.listings.specs.Streams.{streamText, planText};
 ghost use Rattle.listings.specs.LawsStreams.{mostStream, stepText};
 
-// The most bytes of a stream: three for each of 2P + 2P/R + 22 steps.
+// The most bytes of a stream: three for each of 2P + 2P/R + 22 steps, where P is the most that the programs serve.
 pub(crate) const MOST_STREAM: usize = 55362;
 
 const TAB: u8 = 9;

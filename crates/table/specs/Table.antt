@@ -112,6 +112,7 @@ tableUpTo most text =
     && linesUpTo most (tableLines text)
     && idsOnce (tableLines text)
 
+-- a table that is not malformed
 unfoldable pub tableOk : List ℕ → Bool
 tableOk text = tableUpTo mostWords text
 

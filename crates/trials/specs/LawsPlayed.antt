@@ -32,7 +32,7 @@ use Rattle.target.specs.LawsSound.{cells-stay}
 use Rattle.print.specs.Print.{refusedText}
 use Rattle.print.specs.LawsLines.{either-short}
 use Rattle.board.specs.Open.{mostProgram}
-use Rattle.board.specs.LawsOpen.{served-sound, served-most}
+use Rattle.board.specs.LawsOpen.{served-sound, served-most, served-sheet}
 use Rattle.trials.specs.Trial.{mostSteps, cellsOf, played, playedText}
 use Rattle.trials.specs.LawsTyped.{front-is}
 
@@ -187,10 +187,6 @@ module _ (d : Device) (reading : List ℕ) (ok : readingOk (d .words) reading �
 
 -- ---- the sheet
 
-sheet-most : (d : Device) → deviceUpTo mostProgram d ≡ true → sheetLength d ≤ 46135
-unfolding sheetLength
-sheet-most d served = let most : d .words ≤ mostProgram = served-most d served in omega arith
-
 module _ (d : Device) (served : deviceUpTo mostProgram d ≡ true) (cells : List ℕ) (ok : soundCells (chipOf d) cells ≡ true) where
   pub sheet-part : d .words + readingTail ≤ length cells
   sheet-part = let l : length cells ≡ d .words + cellsTail = cells-long (chipOf d) cells ok in omega arith
@@ -205,14 +201,14 @@ module _ (d : Device) (served : deviceUpTo mostProgram d ≡ true) (cells : List
     sheet-is : written d (take (d .words + readingTail) cells) text ≡ record { number = 0; length = sheetLength d }
     unfolding written pick
     sheet-is =
-        let fits : sheetLength d ≤ length text = let m : sheetLength d ≤ 46135 = sheet-most d served in omega arith in
+        let fits : sheetLength d ≤ length text = let m : sheetLength d ≤ 46135 = served-sheet d served in omega arith in
         rw (served-sound d served, front-sound, le-leb (sheetLength d) (length text) fits)
 
     pub sheet-long : w .length ≡ sheetLength d
     sheet-long = ap (λ x. x .length) (e ∙ sheet-is)
 
     pub sheet-short : w .length ≤ 46135
-    sheet-short = let m : sheetLength d ≤ 46135 = sheet-most d served in let l : w .length ≡ sheetLength d = sheet-long in omega arith
+    sheet-short = let m : sheetLength d ≤ 46135 = served-sheet d served in let l : w .length ≡ sheetLength d = sheet-long in omega arith
 
     pub sheet-front : (text′ : List ℕ) → text′ ≡ writtenText d (take (d .words + readingTail) cells) text → take (w .length) text′ ≡ sheetText d (take (d .words + readingTail) cells)
     unfolding writtenText
@@ -223,4 +219,4 @@ module _ (d : Device) (served : deviceUpTo mostProgram d ≡ true) (cells : List
 
 pub played-short : (d : Device) → deviceUpTo mostProgram d ≡ true → (r : Run Target) → length (playedText d r) ≤ 46135
 unfolding playedText
-played-short d served r = either-short 46135 (omega arith) (r .number) (r .done + 1) 1 _ (λ z. rw (length-sheet d (take (d .words + readingTail) (r .target .cells))) (sheet-most d served))
+played-short d served r = either-short 46135 (omega arith) (r .number) (r .done + 1) 1 _ (λ z. rw (length-sheet d (take (d .words + readingTail) (r .target .cells))) (served-sheet d served))

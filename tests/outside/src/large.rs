@@ -1,7 +1,6 @@
 //! Devices of more than 8,192 program words, worked out by hand: the largest that there can be, where program space ends just
 //! before 8000h, and 17 of the programs, which take no such board.
 
-use crate::board::READING_MAX;
 use crate::calls::device_fields;
 use crate::device::Device;
 use crate::field::Field;
@@ -377,6 +376,18 @@ fn program_cases() -> Vec<Case> {
             }
         }
     }
+    // 8,192 words are not too many: what comes next is told.
+    let most = b"MOST\t2A01\t8192\t32\t3EFF\t3FF3\n";
+    for name in ["bench.checksum", "bench.dump"] {
+        let refused = "refused\t14\t0\t0\n";
+        all.push(bench_case("8,192 words", name, &[most, b"2A01\n"], refused));
+    }
+    all.push(bench_case(
+        "8,192 words",
+        "bench.gather",
+        &[most, b"2A01\n", b""],
+        "refused\t21\t0\t0\n",
+    ));
     // A larger line beside the board's own is no matter.
     let board = tiny_sheet();
     let board = board.as_bytes();
@@ -407,7 +418,7 @@ fn board_cases() -> [Case; 2] {
     let mut opened = files.clone();
     opened.push(number(0x5A5A));
     let mut board = record.clone();
-    board.push(vec![0x5A5Au16; READING_MAX].into());
+    board.push(vec![0x5A5Au16; 8_201].into());
     [
         case("BIG's line 1", "board.open_record", None, files, record),
         case("BIG's line 1", "board.open_board", None, opened, board),

@@ -6,7 +6,7 @@ use crate::bench::{answer_text, stream_text, whole_image, TRIAL_LINES};
 use crate::board::OPENED_MAX;
 use crate::calls::{device_fields, parse, Request, CALLS};
 use crate::device::{Device, LINES_MAX, PROGRAM_MAX};
-use crate::field::{Field, Kind, BYTES_MAX, HEX_BYTES_MAX, LINE_MAX, WORDS_MAX};
+use crate::field::{line, Field, Kind, BYTES_MAX, HEX_BYTES_MAX, LINE_MAX, WORDS_MAX};
 use crate::hex::{self, PROGRAM_TEXT_MAX, TEXT_MAX};
 use crate::model::{INCREMENT, LATCHES, READ, RESET};
 use crate::sheet;
@@ -52,14 +52,8 @@ fn full(call: usize, backwards: bool) -> Request {
         lists.reverse();
     }
     for &i in &lists {
-        // Room for nothing at all takes a character, as what stands there now does.
-        let left = LINE_MAX
-            - Request {
-                call,
-                fields: fields.clone(),
-            }
-            .line()
-            .len();
+        // The LF is to have room too; but a character stands here now, which falls away.
+        let left = LINE_MAX - line(c.name, &fields).len();
         let most = c.kinds[i].most();
         fields[i] = match c.kinds[i] {
             Kind::Bytes | Kind::HexBytes => bytes(most.min(left / 2)).into(),
@@ -103,12 +97,11 @@ fn asked(name: &str, d: &Device, lists: Vec<Field>) -> Request {
     Request::new(name, [device_fields(d), lists].concat())
 }
 
-/// The libraries' calls about the largest device, sound but for one.
+/// The libraries' calls about the largest device, with lists that are sound and buffers that are long.
 fn of_libraries() -> Vec<Request> {
     let d = &LARGEST;
     let (board, image) = all_different(d);
     let cells = [board.clone(), vec![0, 1]].concat();
-    let text = hex::text(d, &image);
     // Every second word, which takes the most records.
     let sparse: Vec<u16> = (0..d.entries())
         .map(|i| if i % 2 == 0 { image[i] } else { NOT_GIVEN })
@@ -146,15 +139,7 @@ fn of_libraries() -> Vec<Request> {
             "ihex.read_hex",
             d,
             vec![
-                padded(text.clone(), TEXT_MAX).into(),
-                entries(d.entries()).into(),
-            ],
-        ),
-        asked(
-            "ihex.read_hex",
-            d,
-            vec![
-                padded(text, HEX_BYTES_MAX).into(),
+                padded(hex::text(d, &image), TEXT_MAX).into(),
                 entries(d.entries()).into(),
             ],
         ),
@@ -214,21 +199,19 @@ fn of_libraries() -> Vec<Request> {
     ]
 }
 
-/// The longest table: every line as long as a line can be, the last one the board's, all others too large for a program.
+/// A table of as many lines as there can be, each as long as it can be, the last one the board's.
 fn longest_table() -> Vec<u8> {
-    let line = |id: u16, words: u16| {
-        format!("0123456789ABCDEF\t{id:04X}\t{words}\t32\t3EFF\t3FF3\n").into_bytes()
-    };
-    let mut lines: Vec<Vec<u8>> = (1..LINES_MAX as u16)
-        .map(|id| line(id, PROGRAM_MAX))
+    let others = 1..LINES_MAX as u16;
+    let mut text: String = others
+        .map(|id| format!("0123456789ABCDEF\t{id:04X}\t{PROGRAM_MAX}\t32\t3EFF\t3FF3\n"))
         .collect();
-    lines.push(line(OPENED.id, OPENED.words));
-    lines.concat()
+    text += "0123456789ABCDEF\t2A01\t8192\t8\t3EFF\t3FF3\n";
+    text.into_bytes()
 }
 
 /// The programs with the longest files that they take, and a buffer that is longer than what they print.
 fn of_programs() -> Vec<Request> {
-    let d = &Device { row: 32, ..OPENED };
+    let d = &OPENED;
     let (board, image) = all_different(d);
     let wanted = wanted_over(d, &image, &board);
     let (before, after) = (sheet::text(d, &board), sheet::text(d, &wanted));
@@ -270,11 +253,16 @@ fn of_programs() -> Vec<Request> {
     ]
 }
 
-/// All of them are well formed, and answered as we do.
+/// All of them are well formed, and answered as we do; those that are to be sound are not refused.
 pub fn check(peer: &Peer, tally: &mut Tally) {
-    let mut requests = all_full();
-    requests.extend(of_libraries());
-    requests.extend(of_programs());
+    let sound = [of_libraries(), of_programs()].concat();
+    for r in &sound {
+        let number = r.own().class;
+        tally.check(matches!(number, 0 | 40), || {
+            format!("{}: the largest is refused with {number}", r.call().name)
+        });
+    }
+    let requests = [all_full(), sound].concat();
     for r in &requests {
         let line = r.line();
         let formed = line.len() < LINE_MAX && parse(&line).is_ok();

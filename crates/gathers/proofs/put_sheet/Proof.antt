@@ -3,9 +3,10 @@ use mathlib.Core.Path.{sym}
 use native.Mathlib.Omega.{arith}
 use lib.Seq.{length-take-le}
 use Rattle.board.specs.LawsOpen.{served-most}
+use Rattle.board.specs.LawsBoard.{served-room, served-long}
 use Rattle.print.specs.LawsPrint.{prints-as}
 use Rattle.gathers.specs.LawsAnswers.{answers-sound}
-use Rattle.gathers.specs.LawsStored.{words-room, words-part, front-room, front-part, sheet-short, sheet-front}
+use Rattle.gathers.specs.LawsStored.{front-room, front-part, sheet-short, sheet-front}
 use borrow.Author.Needs.{needs}
 use Rattle.gathers.proofs.put_sheet.Statement.{statement}
 use Rattle.gathers.proofs.put_sheet.Tie as tie
@@ -17,13 +18,13 @@ add-count : tie.Need-add-count
 add-count c = search needs
 
 array-borrow-prefix-words : tie.Need-array-borrow-prefix-words
-array-borrow-prefix-words c = words-room (c .before .before .before .args .d) (c .before .before .before .pre .0)
+array-borrow-prefix-words c = served-room (c .before .before .before .args .d) (c .before .before .before .pre .0) 0
 
 slice-aggregate-store : tie.Need-slice-aggregate-store
-slice-aggregate-store c = sym (words-part (c .before .before .before .before .args .d) (c .before .before .before .before .pre .0))
+slice-aggregate-store c = sym (served-long (c .before .before .before .before .args .d) (c .before .before .before .before .pre .0) 0)
 
 store-requires : tie.Need-store-requires
-store-requires c κs = (served-most (c .before .before .before .before .args .d) (c .before .before .before .before .pre .0), words-part (c .before .before .before .before .args .d) (c .before .before .before .before .pre .0), answers-sound _ _ (c .before .before .before .before .pre .1))
+store-requires c κs = (served-most (c .before .before .before .before .args .d) (c .before .before .before .before .pre .0), served-long (c .before .before .before .before .args .d) (c .before .before .before .before .pre .0) 0, answers-sound _ _ (c .before .before .before .before .pre .1))
 
 array-share-prefix-words : tie.Need-array-share-prefix-words
 array-share-prefix-words c = front-room (c .before .before .before .before .before .before .args .d) (c .before .before .before .before .before .before .pre .0) _

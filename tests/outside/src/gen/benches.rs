@@ -9,7 +9,7 @@ use super::{hexes, lent, number, room};
 use crate::bench as own;
 use crate::calls::Request;
 use crate::device::{Device, CP};
-use crate::field::{Field, Kind};
+use crate::field::{Field, BYTES_MAX};
 use crate::hex::PROGRAM_TEXT_MAX;
 use crate::model::{INCREMENT, READ, RESET};
 use crate::rng::Rng;
@@ -173,8 +173,7 @@ fn hex_file(d: &Device, reading: &mut [u16], aim: u32, rng: &mut Rng) -> Vec<u8>
         14..=16 if rng.chance(30) => rng.pick(&[2, 3, 10]),
         _ => 0,
     };
-    let limits = (PROGRAM_TEXT_MAX, Kind::Bytes);
-    hexes::text(d, &image, lines, limits, rng)
+    hexes::text(d, &image, lines, PROGRAM_TEXT_MAX, BYTES_MAX, rng)
 }
 
 fn wanted_file(d: &Device, reading: &[u16], aim: u32, rng: &mut Rng) -> Vec<u8> {

@@ -87,8 +87,8 @@ pub fn any_device(rng: &mut Rng) -> Device {
     }
 }
 
-/// A lawful device where nothing but its record is told, so that a large one costs nothing.
-fn told_device(rng: &mut Rng) -> Device {
+/// A lawful device of any size, for where nothing but its record is asked: a large one costs no more there.
+fn device_of_any_size(rng: &mut Rng) -> Device {
     if rng.chance(25) {
         large_device(rng)
     } else {
@@ -106,11 +106,11 @@ pub fn unlawful(d: &Device, rng: &mut Rng) -> Device {
                 1 => bad.row = rng.pick(&[0, 1, 2, 4, 7, 9, 24, 31, 33, 48, 64, 256, 65_535]),
                 2 => bad.words = 0,
                 3 => bad.words = bad.words.wrapping_add(rng.between(1, 7) as u16),
-                // Above the most words, by a row or by far; and just above it, or the programs', in no multiple of R.
+                // Above the most words, by a row or by far; the last two are no multiples of R.
                 4 => {
+                    let next = PROGRAM_MAX + d.row;
                     bad.words = rng.pick(&[
-                        32_776, 32_784, 32_800, 40_000, 40_960, 49_152, 65_504, 65_528, 65_535,
-                        32_769, 8_193,
+                        next, next, 40_000, 40_960, 49_152, 65_504, 65_528, 32_769, 8_193,
                     ])
                 }
                 5 => bad.mask1 &= !CP,
@@ -265,7 +265,7 @@ fn table_lines(d: &Device, rng: &mut Rng) -> Vec<Vec<u8>> {
                 return table_line(&name(rng), d);
             }
             // Also larger than the programs take: only the board's own line counts for that.
-            let mut other = told_device(rng);
+            let mut other = device_of_any_size(rng);
             while ids.contains(&other.id) {
                 other.id = rng.word();
             }
@@ -330,7 +330,7 @@ pub fn bad_table(d: &Device, rng: &mut Rng) -> Vec<u8> {
         2 => {
             let twice = rng.below(lines.len() + 1);
             let id = line.split(|&c| c == b'\t').nth(1).expect("an ID").to_vec();
-            let other = table_line(b"again", &told_device(rng));
+            let other = table_line(b"again", &device_of_any_size(rng));
             lines.insert(twice, with_field(&other, 1, &id));
         }
         3 => {
@@ -398,7 +398,7 @@ pub fn bad_table(d: &Device, rng: &mut Rng) -> Vec<u8> {
 pub fn device(name: &str, aim: u32, d: Device, rng: &mut Rng) -> Vec<Field> {
     let d = match name {
         "is_image" | "is_reading" | "is_protected" => d,
-        _ => told_device(rng),
+        _ => device_of_any_size(rng),
     };
     match name {
         "judge" if aim == 13 => device_fields(&unlawful(&d, rng)),

@@ -4,7 +4,7 @@ use super::boards::{also, image_for, reading_for, record, roomy_device, spoil_im
 use super::{lent, lent_words, room};
 use crate::board::OPENED_MAX;
 use crate::device::Device;
-use crate::field::{Field, Kind};
+use crate::field::{Field, HEX_BYTES_MAX};
 use crate::hex as own;
 use crate::rng::Rng;
 use crate::words::{CONFIG, NOT_GIVEN};
@@ -362,12 +362,13 @@ fn pad(text: Vec<u8>, length: usize, rng: &mut Rng) -> Vec<u8> {
     }
 }
 
-/// A text that the reader should answer with the number; `most` is the longest it may have, in a field of that kind.
+/// A text that the reader should answer with the number; `most` is the longest it may have, `room` what its field holds.
 pub fn text(
     d: &Device,
     image: &[u16],
     aim: u32,
-    (most, kind): (usize, Kind),
+    most: usize,
+    room: usize,
     rng: &mut Rng,
 ) -> Vec<u8> {
     let mut lines = image_lines(d, image, rng);
@@ -416,7 +417,7 @@ pub fn text(
     match rng.below(seldom) {
         _ if aim == 1 && rng.chance(70) => pad(text, most + 1, rng),
         _ if aim == 1 => {
-            let length = rng.between(most + 1, kind.most().min(most + 600));
+            let length = rng.between(most + 1, room.min(most + 600));
             pad(text, length, rng)
         }
         0 => pad(text, most, rng),
@@ -452,8 +453,7 @@ pub fn ihex(name: &str, aim: u32, d: Device, rng: &mut Rng) -> Vec<Field> {
             12 | 13 => rng.pick(&[0, 0, 2, 10]),
             _ => aim,
         };
-        let limits = (own::TEXT_MAX, Kind::HexBytes);
-        let text = text(&d, &image, text_aim, limits, rng);
+        let text = text(&d, &image, text_aim, own::TEXT_MAX, HEX_BYTES_MAX, rng);
         let mut length = d.entries();
         if aim == 12 || also(aim, &[13], rng) {
             length = rng.pick(&[0, 9, length - 1, length + 1, length + 2, d.p()]);

@@ -2,7 +2,8 @@
 use mathlib.Core.Path.{sym, _∙_}
 use Rattle.device.specs.LawsMemory.{reading-long}
 use Rattle.print.specs.LawsPrint.{prints-as}
-use Rattle.listings.specs.LawsLeft.{left-refused, fill-room, fill-part, left-within, left-part, left-sound, left-found}
+use Rattle.board.specs.LawsBoard.{served-room, served-long}
+use Rattle.listings.specs.LawsLeft.{left-refused, left-within, left-part, left-sound, left-found}
 use borrow.Author.Needs.{needs}
 use Rattle.listings.proofs.wanteds.put_left.Statement.{statement}
 use Rattle.listings.proofs.wanteds.put_left.Tie as tie
@@ -23,13 +24,13 @@ add-count : tie.Need-add-count
 add-count c = search needs
 
 array-borrow-prefix-words : tie.Need-array-borrow-prefix-words
-array-borrow-prefix-words c = fill-room _ (c .before .before .before .before .before .pre .0)
+array-borrow-prefix-words c = served-room _ (c .before .before .before .before .before .pre .0) 0
 
 slice-aggregate-fill : tie.Need-slice-aggregate-fill
-slice-aggregate-fill c = sym (fill-part _ (c .before .before .before .before .before .before .pre .0))
+slice-aggregate-fill c = sym (served-long _ (c .before .before .before .before .before .before .pre .0) 0)
 
 fill-requires : tie.Need-fill-requires
-fill-requires c κs = fill-part _ (c .before .before .before .before .before .before .pre .0) ∙ sym (reading-long _ _ (c .before .before .before .before .before .before .pre .1))
+fill-requires c κs = served-long _ (c .before .before .before .before .before .before .pre .0) 0 ∙ sym (reading-long _ _ (c .before .before .before .before .before .before .pre .1))
 
 array-share-prefix-words : tie.Need-array-share-prefix-words
 array-share-prefix-words c =
