@@ -25,14 +25,10 @@ fn latch_of(d: Device, at: WordAddress) -> usize
     (at.0 & (d.row - 1)) as usize
 }
 
+// Increment: the highest bit tells the space and stays, and the others count around.
 pub(crate) fn next_address(a: WordAddress) -> WordAddress
     ensures { λ r. ⌜ r .0 ≡ successor configBase (a .0) ⌝ }
 {
-    if a.0 == 0x7fff {
-        return WordAddress(0);
-    }
-    if a.0 == 0xffff {
-        return WordAddress(CONFIG_BASE);
-    }
-    WordAddress(a.0 + 1)
+    let space = a.0 / CONFIG_BASE * CONFIG_BASE;
+    WordAddress(space + (a.0 % CONFIG_BASE + 1) % CONFIG_BASE)
 }

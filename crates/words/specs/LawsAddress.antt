@@ -6,7 +6,7 @@ use mathlib.Core.Path.{_≡_, sym, ap, _∙_}
 use lib.Dec.{eqb}
 use borrow.Author.Tests.{lt-ltb, le-ltb, eq-eqb, ne-eqb}
 use Rattle.words.specs.Choice.{pick}
-use Rattle.words.specs.Address.{placed, doubled, halved, entryOf, addressOf, placeOf, successor}
+use Rattle.words.specs.Address.{configBase, placed, doubled, halved, entryOf, addressOf, placeOf, successor}
 use Rattle.words.specs.declared.WordAddress.{WordAddress}
 use Rattle.words.specs.declared.ByteAddress.{ByteAddress}
 use Rattle.words.specs.declared.Place.{Place}
@@ -149,3 +149,14 @@ module _ (base a : ℕ) where
   pub successor-config : base ≤ a → a + 1 < 2 * base → successor base a ≡ a + 1
   unfolding successor pick
   successor-config p h = rw (ne-eqb a (base - 1) (λ e. omega arith), ne-eqb a (2 * base - 1) (λ e. omega arith))
+
+-- the highest of 16 bits tells the space, and the others count around
+pub successor-around : (a : ℕ) → a < 0x10000 → a / 0x8000 * 0x8000 + (a % 0x8000 + 1) % 0x8000 ≡ successor configBase a
+unfolding successor pick
+successor-around a h = by (ℕ-discrete a 0x7fff) (ℕ-discrete a 0xffff)
+  where
+    by : Dec (a ≡ 0x7fff) → Dec (a ≡ 0xffff)
+        → a / 0x8000 * 0x8000 + (a % 0x8000 + 1) % 0x8000 ≡ pick (eqb a (configBase - 1)) 0 (pick (eqb a (2 * configBase - 1)) configBase (a + 1))
+    by (yes p) q = rw (eq-eqb a 0x7fff p) (omega arith)
+    by (no p) (yes q) = rw (ne-eqb a 0x7fff p, eq-eqb a 0xffff q) (omega arith)
+    by (no p) (no q) = rw (ne-eqb a 0x7fff p, ne-eqb a 0xffff q) (omega arith)

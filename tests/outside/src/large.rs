@@ -104,7 +104,7 @@ fn column(place: usize) -> u32 {
 fn across_cases() -> Vec<Case> {
     let p = BIG.p();
     let mut all = vec![
-        // The issue's own, written out.
+        // The request's own, written out.
         hex_case(
             &BIG,
             b":04FFFE003412560063\n:00000001FF\n",
@@ -333,6 +333,88 @@ fn sheet_cases() -> [Case; 2] {
     ]
 }
 
+/// A step at a counter, with every latch of another word: the counter, the words read and the cells that change. Every cell
+/// is 2AAAh before, so that it is not protected.
+fn step_case(
+    code: u8,
+    counter: u16,
+    next: u16,
+    read: Option<u16>,
+    changed: &[(usize, u16)],
+) -> Case {
+    let latches: Vec<u16> = (0..32).map(|k| 0x3F00 + k).collect();
+    let left = if code == 0x08 {
+        vec![0x3FFF; 32]
+    } else {
+        latches.clone()
+    };
+    let cells = vec![0x2AAA; BIG.cells()];
+    let mut after = cells.clone();
+    for &(entry, word) in changed {
+        after[entry] = word;
+    }
+    let fields = vec![
+        counter.into(),
+        latches.into(),
+        code.into(),
+        number(0),
+        vec![0x5A5Au16].into(),
+        cells.into(),
+    ];
+    let words = vec![read.unwrap_or(0x5A5A)];
+    let expected = vec![
+        number(0),
+        next.into(),
+        left.into(),
+        words.into(),
+        after.into(),
+    ];
+    let what = format!("code {code:02X}h at {counter:04X}h");
+    case(&what, "target.step", Some(&BIG), fields, expected)
+}
+
+/// The model where program space ends and configuration space begins.
+fn step_cases() -> Vec<Case> {
+    // The last row is 7FE0h to 7FFFh: 2AAAh AND 3F00h + k.
+    let written: Vec<(usize, u16)> = (0..32)
+        .map(|k| (0x7FE0 + k, 0x2A00 + (0xAA & k as u16)))
+        .collect();
+    let erased: Vec<(usize, u16)> = (0x7FE0..0x8000).map(|a| (a, 0x3FFF)).collect();
+    let ids: Vec<(usize, u16)> = (0x8000..0x8004).map(|a| (a, 0x3FFF)).collect();
+    vec![
+        step_case(0x08, 0x7FFF, 0x7FFF, None, &written),
+        step_case(0x11, 0x7FFF, 0x7FFF, None, &erased),
+        step_case(0x04, 0x7FFF, 0x7FFF, Some(0x2AAA), &[]),
+        step_case(0x06, 0x7FFF, 0x0000, None, &[]),
+        step_case(0x08, 0x8000, 0x8000, None, &[(0x8000, 0x2A00)]),
+        step_case(0x11, 0x8000, 0x8000, None, &ids),
+        step_case(0x04, 0x8000, 0x8000, Some(0x2AAA), &[]),
+    ]
+}
+
+/// The sum of a blank board, and a verdict on one of which every word differs that is judged.
+fn judge_cases() -> [Case; 2] {
+    let blank = vec![0x3FFFu16; 32_777];
+    let zero = vec![0x0000u16; 32_777];
+    [
+        // 32,768 times 3FFFh is 8000h, and the two masks are 7EF2h more.
+        case(
+            "a blank board's sum",
+            "judge.checksum",
+            Some(&BIG),
+            vec![blank.clone().into()],
+            vec![number(0), number(0xFEF2)],
+        ),
+        case(
+            "every word differs",
+            "judge.verify",
+            Some(&BIG),
+            vec![zero.into(), blank.into()],
+            vec![number(40), number(0), number(32_774)],
+        ),
+    ]
+}
+
 /// The programs that read table and sheet, and those that read a third file.
 const OF_TWO: [&str; 3] = ["bench.checksum", "bench.readback", "bench.dump"];
 const OF_THREE: [&str; 7] = [
@@ -431,6 +513,8 @@ pub fn cases() -> Vec<Case> {
     all.extend(length_cases());
     all.extend([text_case(), update_case(), read_back_case()]);
     all.extend(sheet_cases());
+    all.extend(step_cases());
+    all.extend(judge_cases());
     all.extend(program_cases());
     all.extend(board_cases());
     all
