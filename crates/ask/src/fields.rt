@@ -157,23 +157,25 @@ pub fn byte(line: &[u8], at: usize) -> Of8 {
     }
 }
 
-// The five numbers of a device record.
+// The six numbers of a device record.
 pub fn device(line: &[u8], at: usize) -> Record {
     let id = short(line, at);
     let words = short(line, id.at);
     let row = short(line, words.at);
     let mask1 = short(line, row.at);
     let mask2 = short(line, mask1.at);
+    let idmask = short(line, mask2.at);
     let device = Device {
         id: id.value,
         words: words.value,
         row: row.value,
         mask1: mask1.value,
         mask2: mask2.value,
+        idmask: idmask.value,
     };
     Record {
         device,
-        at: mask2.at,
+        at: idmask.at,
     }
 }
 

@@ -26,7 +26,8 @@ pub fn three(out: &mut [u8], at: usize, first: u64, second: u64, third: u64) -> 
 // A number and a device record.
 pub fn record(out: &mut [u8], at: usize, n: u8, d: Device) -> usize {
     let first = three(out, at, n as u64, d.id as u64, d.words as u64);
-    three(out, first, d.row as u64, d.mask1 as u64, d.mask2 as u64)
+    let next = three(out, first, d.row as u64, d.mask1 as u64, d.mask2 as u64);
+    number(out, next, d.idmask as u64)
 }
 
 // Bytes, or a dash for none.

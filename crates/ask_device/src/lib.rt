@@ -17,7 +17,7 @@ pub fn answer(
     out: &mut [u8],
 ) -> usize {
     match name::place(
-        b"device.judge device.judge_table device.find_device device.is_image judge.checksum judge.verify sheet.read_sheet sheet.read_id sheet.write_sheet device.is_reading device.is_protected device.programmable device.id_fits device.under_mask",
+        b"device.judge device.judge_table device.find_device device.is_image judge.checksum judge.verify sheet.read_sheet sheet.read_id sheet.write_sheet device.is_reading device.is_protected device.programmable device.fits device.under_mask",
         name,
     ) {
         0 => records::judge(line, at, out),
@@ -32,7 +32,7 @@ pub fn answer(
         9 => records::is_reading(line, at, w, out),
         10 => records::is_protected(line, at, w, out),
         11 => records::programmable(line, at, out),
-        12 => records::id_fits(line, at, out),
+        12 => records::fits(line, at, out),
         13 => records::under_mask(line, at, out),
         _ => UNKNOWN,
     }

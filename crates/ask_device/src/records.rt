@@ -77,13 +77,13 @@ pub(crate) fn programmable(line: &[u8], at: usize, out: &mut [u8]) -> usize {
     )
 }
 
-pub(crate) fn id_fits(line: &[u8], at: usize, out: &mut [u8]) -> usize {
+pub(crate) fn fits(line: &[u8], at: usize, out: &mut [u8]) -> usize {
     let d = fields::device(line, at);
     let word = fields::short(line, d.at);
     if word.at != line.len() {
         return NOWHERE;
     }
-    put::number(out, at, device::id_fits(d.device, word.value) as u64)
+    put::number(out, at, device::fits(d.device, word.value) as u64)
 }
 
 pub(crate) fn under_mask(line: &[u8], at: usize, out: &mut [u8]) -> usize {

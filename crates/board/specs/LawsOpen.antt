@@ -6,7 +6,7 @@ use mathlib.Core.Bool.{Bool, true, false}
 use mathlib.Core.List.{List}
 use lib.Dec.{leb, eqb}
 use lib.ListN.{length}
-use borrow.Author.Tests.{eq-eqb, ne-eqb, le-leb, lt-leb, leb-true}
+use borrow.Author.Tests.{eq-eqb, eqb-true, ne-eqb, le-leb, lt-leb, leb-true}
 use Rattle.words.specs.Choice.{pick}
 use Rattle.words.specs.LawsChoice.{pick-true}
 use Rattle.device.specs.declared.Device.{Device}
@@ -17,7 +17,8 @@ use Rattle.device.specs.LawsRecord.{rules-up-to, other-limit, more-words}
 use Rattle.device.specs.Memory.{readingTail}
 use Rattle.table.specs.LawsTable.{found-sound}
 use Rattle.sheet.specs.declared.Line1.{Line1}
-use Rattle.sheet.specs.Sheet.{firstLine, sheetLength, sheetOk, wordsIn, readNumber, readBuffer}
+use Rattle.sheet.specs.Sheet.{idIn, firstLine, sheetLength, sheetOk, wordsIn, readNumber, readBuffer}
+use Rattle.sheet.specs.LawsRead.{id-stands}
 use Rattle.board.specs.Open.{mostProgram, recordOf, openNumber}
 
 -- the number of the search by itself
@@ -115,8 +116,9 @@ module _ (d : Device) (served : deviceUpTo mostProgram d ≡ true) where
 
 -- ---- a record that was found
 
--- it keeps the rules, and has no more program words than the programs serve
+-- line 1 is not refused; it keeps the rules, and has no more program words than the programs serve
 record Opens (table sheet : List ℕ) : Type 0 where
+  pub first : firstLine sheet .number ≡ 0
   pub sound : deviceOk (recordOf table sheet) ≡ true
   pub few : recordOf table sheet .words ≤ mostProgram
 
@@ -124,15 +126,19 @@ opens : (table sheet : List ℕ) → openNumber table sheet ≡ 0 → Opens tabl
 unfolding openNumber recordOf
 opens table sheet z =
     by (tableOk table) (eqb (firstLine sheet .number) 0) (hasId (firstLine sheet .id) (tableLines table)) (leb (recordOf table sheet .words) mostProgram) z
-    (found-sound table (firstLine sheet .id)) (leb-true (recordOf table sheet .words) mostProgram)
+    (eqb-true (firstLine sheet .number) 0) (found-sound table (firstLine sheet .id)) (leb-true (recordOf table sheet .words) mostProgram)
   where
     by : (t f h w : Bool) → pick {A = ℕ} t (pick {A = ℕ} f (pick {A = ℕ} h (pick {A = ℕ} w 0 17) 16) 14) 15 ≡ 0
-        → (t ≡ true → h ≡ true → deviceOk (foundIn table (firstLine sheet .id) .device) ≡ true) → (w ≡ true → recordOf table sheet .words ≤ mostProgram) → Opens table sheet
-    by true true true true q k m = record { sound = k refl refl; few = m refl }
-    by true true true false q k m = absurd (unfold pick in omega (arith, q))
-    by true true false w q k m = absurd (unfold pick in omega (arith, q))
-    by true false h w q k m = absurd (unfold pick in omega (arith, q))
-    by false f h w q k m = absurd (unfold pick in omega (arith, q))
+        → (f ≡ true → firstLine sheet .number ≡ 0) → (t ≡ true → h ≡ true → deviceOk (foundIn table (firstLine sheet .id) .device) ≡ true) → (w ≡ true → recordOf table sheet .words ≤ mostProgram) → Opens table sheet
+    by true true true true q j k m = record { first = j refl; sound = k refl refl; few = m refl }
+    by true true true false q j k m = absurd (unfold pick in omega (arith, q))
+    by true true false w q j k m = absurd (unfold pick in omega (arith, q))
+    by true false h w q j k m = absurd (unfold pick in omega (arith, q))
+    by false f h w q j k m = absurd (unfold pick in omega (arith, q))
+
+-- the ID of line 1 is the number that stands there
+pub opened-id : (table sheet : List ℕ) → openNumber table sheet ≡ 0 → firstLine sheet .id ≡ idIn sheet
+opened-id table sheet z = id-stands sheet (opens table sheet z .first)
 
 pub opened-sound : (table sheet : List ℕ) → openNumber table sheet ≡ 0 → deviceOk (recordOf table sheet) ≡ true
 opened-sound table sheet z = opens table sheet z .sound

@@ -1,4 +1,4 @@
--- How records and answers cross to C: a record as five numbers in a row, an answer as its number and the values stored beside it.
+-- How records and answers cross to C: a record as six numbers in a row, an answer as its number and the values stored beside it.
 use Prim.Native.Nat.{ℕ}
 use mathlib.Core.Path.{_≡_}
 use mathlib.Core.List.{List, [], _∷_}
@@ -14,13 +14,13 @@ use Rattle.hexwrite.specs.declared.WrittenHex.{WrittenHex}
 use Rattle.target.specs.declared.Ran.{Ran}
 use Rattle.plan.specs.declared.Planned.{Planned}
 
--- the record of five numbers: ID, program words, row words, and the two masks
+-- the record of six numbers: ID, program words, row words, masks 1 and 2, and the ID's mask
 unfoldable pub deviceAt : List ℕ → Device
-deviceAt l = record { id = getD l 0 0; words = getD l 1 0; row = getD l 2 0; mask1 = getD l 3 0; mask2 = getD l 4 0 }
+deviceAt l = record { id = getD l 0 0; words = getD l 1 0; row = getD l 2 0; mask1 = getD l 3 0; mask2 = getD l 4 0; idmask = getD l 5 0 }
 
--- the five numbers of a record, in the same order
+-- the six numbers of a record, in the same order
 unfoldable pub numbersOf : Device → List ℕ
-numbersOf d = d .id ∷ d .words ∷ d .row ∷ d .mask1 ∷ d .mask2 ∷ []
+numbersOf d = d .id ∷ d .words ∷ d .row ∷ d .mask1 ∷ d .mask2 ∷ d .idmask ∷ []
 
 -- ---- the answers, put together again
 

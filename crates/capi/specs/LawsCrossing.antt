@@ -1,4 +1,4 @@
--- Laws of what crosses to C: a record comes back from its five numbers, and a search's answer from its parts.
+-- Laws of what crosses to C: a record comes back from its six numbers, and a search's answer from its parts.
 use Prim.Native.Nat.{ℕ}
 use mathlib.Core.Path.{_≡_, ap, _∙_}
 use mathlib.Core.List.{List}

@@ -8,7 +8,7 @@ ghost use Rattle.capi.specs.Crossing.{deviceAt, sumAnswer, verdictAnswer
 
 // The checksum of a reading.
 #[no_mangle]
-pub extern "C" fn tickmallet_checksum(numbers: &[u16; 5], reading: &[u16], sum: &mut u16) -> u8
+pub extern "C" fn tickmallet_checksum(numbers: &[u16; 6], reading: &[u16], sum: &mut u16) -> u8
     ensures { λ r. ⌜ sumAnswer r (now (sum .exit)) ≡ summed (deviceAt (now (numbers .entry))) (now (reading .entry)) ⌝ }
 {
     let s = judge::checksum(device_at(numbers), reading);
@@ -19,7 +19,7 @@ pub extern "C" fn tickmallet_checksum(numbers: &[u16; 5], reading: &[u16], sum: 
 // A reading held against a wanted one.
 #[no_mangle]
 pub extern "C" fn tickmallet_verify(
-    numbers: &[u16; 5],
+    numbers: &[u16; 6],
     wanted: &[u16],
     reading: &[u16],
     address: &mut u16,
@@ -45,7 +45,7 @@ pub extern "C" fn tickmallet_read_id(text: &[u8], id: &mut u16) -> u8
 
 // A sheet read into a buffer.
 #[no_mangle]
-pub extern "C" fn tickmallet_read_sheet(numbers: &[u16; 5], text: &[u8], buffer: &mut [u16]) -> u8
+pub extern "C" fn tickmallet_read_sheet(numbers: &[u16; 6], text: &[u8], buffer: &mut [u16]) -> u8
     ensures { λ r. ⌜ (r ≡ readNumber (deviceAt (now (numbers .entry))) (now (text .entry)) (now (buffer .entry)))
         × (now (buffer .exit) ≡ readBuffer (deviceAt (now (numbers .entry))) (now (text .entry)) (now (buffer .entry))) ⌝ }
 {
@@ -55,7 +55,7 @@ pub extern "C" fn tickmallet_read_sheet(numbers: &[u16; 5], text: &[u8], buffer:
 // A sheet written.
 #[no_mangle]
 pub extern "C" fn tickmallet_write_sheet(
-    numbers: &[u16; 5],
+    numbers: &[u16; 6],
     reading: &[u16],
     out: &mut [u8],
     length: &mut usize,

@@ -7,7 +7,7 @@ ghost use Rattle.capi.specs.Crossing.{deviceAt, hexOutcome, hexAnswer};
 // HEX text read into an image.
 #[no_mangle]
 pub extern "C" fn tickmallet_read_hex(
-    numbers: &[u16; 5],
+    numbers: &[u16; 6],
     text: &[u8],
     image: &mut [u16],
     line: &mut u32,
@@ -24,7 +24,7 @@ pub extern "C" fn tickmallet_read_hex(
 // An image written as HEX text.
 #[no_mangle]
 pub extern "C" fn tickmallet_write_hex(
-    numbers: &[u16; 5],
+    numbers: &[u16; 6],
     image: &[u16],
     out: &mut [u8],
     length: &mut usize,

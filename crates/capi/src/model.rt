@@ -6,7 +6,7 @@ ghost use Rattle.capi.specs.Crossing.{deviceAt, runAnswer};
 // A trial run of a stream.
 #[no_mangle]
 pub extern "C" fn tickmallet_run(
-    numbers: &[u16; 5],
+    numbers: &[u16; 6],
     cells: &mut [u16],
     stream: &[u8],
     allowance: usize,

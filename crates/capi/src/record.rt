@@ -4,8 +4,8 @@ ghost use mathlib.Core.Path.{_≡_};
 ghost use Rattle.table.specs.Table.{foundIn};
 ghost use Rattle.capi.specs.Crossing.{deviceAt, numbersOf, Finds};
 
-// The record that five numbers give.
-pub(crate) fn device_at(numbers: &[u16; 5]) -> Device
+// The record that six numbers give.
+pub(crate) fn device_at(numbers: &[u16; 6]) -> Device
     ensures { λ r. ⌜ r ≡ deviceAt (now (numbers .entry)) ⌝ }
 {
     Device {
@@ -14,6 +14,7 @@ pub(crate) fn device_at(numbers: &[u16; 5]) -> Device
         row: numbers[2],
         mask1: numbers[3],
         mask2: numbers[4],
+        idmask: numbers[5],
     }
 }
 
@@ -22,7 +23,7 @@ pub(crate) fn device_at(numbers: &[u16; 5]) -> Device
 pub extern "C" fn tickmallet_find_device(
     table: &[u8],
     id: u16,
-    numbers: &mut [u16; 5],
+    numbers: &mut [u16; 6],
     name_at: &mut usize,
     name_len: &mut usize,
 ) -> u8
@@ -35,9 +36,9 @@ pub extern "C" fn tickmallet_find_device(
     found.number
 }
 
-// The five numbers of a record.
-fn put_device(numbers: &mut [u16; 5], d: Device)
+// The six numbers of a record.
+fn put_device(numbers: &mut [u16; 6], d: Device)
     ensures { λ _. ⌜ now (numbers .exit) ≡ numbersOf d ⌝ }
 {
-    *numbers = [d.id, d.words, d.row, d.mask1, d.mask2];
+    *numbers = [d.id, d.words, d.row, d.mask1, d.mask2, d.idmask];
 }

@@ -7,7 +7,7 @@ ghost use Rattle.capi.specs.Crossing.{deviceAt, planAnswer};
 // The stream of an update.
 #[no_mangle]
 pub extern "C" fn tickmallet_update(
-    numbers: &[u16; 5],
+    numbers: &[u16; 6],
     image: &[u16],
     reading: &[u16],
     out: &mut [u8],
@@ -24,7 +24,7 @@ pub extern "C" fn tickmallet_update(
 // The stream of a fresh programming.
 #[no_mangle]
 pub extern "C" fn tickmallet_fresh(
-    numbers: &[u16; 5],
+    numbers: &[u16; 6],
     image: &[u16],
     id_word: u16,
     out: &mut [u8],
@@ -40,7 +40,7 @@ pub extern "C" fn tickmallet_fresh(
 
 // The stream that reads a whole board.
 #[no_mangle]
-pub extern "C" fn tickmallet_read_back(numbers: &[u16; 5], out: &mut [u8], steps: &mut usize) -> u8
+pub extern "C" fn tickmallet_read_back(numbers: &[u16; 6], out: &mut [u8], steps: &mut usize) -> u8
     ensures { λ r. ⌜ Plans (readBackNumber (deviceAt (now (numbers .entry)))) (readBackSteps (deviceAt (now (numbers .entry)))) (now (out .entry)) (planAnswer r (now (steps .exit))) (now (out .exit)) ⌝ }
 {
     let p = plan::read_back(device_at(numbers), out);

@@ -2,7 +2,7 @@
 use mathlib.Core.Path.{_≡_}
 use Rattle.words.specs.LawsPromise.{determined}
 use Rattle.device.proofs.record.judge.Reads as judge
-use Rattle.device.proofs.record.id_fits.Reads as id-fits
+use Rattle.device.proofs.record.fits.Reads as fits
 use Rattle.device.proofs.memory.programmable.Reads as programmable
 use Rattle.device.proofs.memory.under_mask.Reads as under-mask
 use Rattle.device.proofs.memory.is_reading.Reads as is-reading
@@ -12,8 +12,8 @@ use Rattle.device.proofs.memory.is_protected.Reads as is-protected
 pub judge-determined : (κs : _) (a : _) (r s : _) (x y : _) → judge.Post κs a r x → judge.Post κs a s y → r ≡ s
 judge-determined κs a r s x y p q = determined p q
 
-pub id-fits-determined : (κs : _) (a : _) (r s : _) (x y : _) → id-fits.Post κs a r x → id-fits.Post κs a s y → r ≡ s
-id-fits-determined κs a r s x y p q = determined p q
+pub fits-determined : (κs : _) (a : _) (r s : _) (x y : _) → fits.Post κs a r x → fits.Post κs a s y → r ≡ s
+fits-determined κs a r s x y p q = determined p q
 
 pub programmable-determined : (κs : _) (a : _) (r s : _) (x y : _) → programmable.Post κs a r x → programmable.Post κs a s y → r ≡ s
 programmable-determined κs a r s x y p q = determined p q

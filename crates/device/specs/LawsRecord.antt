@@ -24,6 +24,7 @@ pub record RulesUpTo (top : ℕ) (d : Device) : Type 0 where
   pub id-word : d .id < 0x4000
   pub mask1-word : d .mask1 < 0x4000
   pub mask2-word : d .mask2 < 0x4000
+  pub idmask-word : d .idmask < 0x4000
   pub cp-bit : bit (d .mask1) 7 ≡ 1
 
 abbrev pub Rules : Device → Type 0
@@ -74,6 +75,7 @@ module _ (top : ℕ) (d : Device) where
         is-word (d .id) (v .id-word),
         is-word (d .mask1) (v .mask1-word),
         is-word (d .mask2) (v .mask2-word),
+        is-word (d .idmask) (v .idmask-word),
         eq-eqb (bit (d .mask1) 7) 1 (v .cp-bit),
       )
 
@@ -87,7 +89,9 @@ module _ (top : ℕ) (d : Device) where
       let upTo3 : Bool = upTo2 && isWord (d .id) in
       let upTo4 : Bool = upTo3 && isWord (d .mask1) in
       let upTo5 : Bool = upTo4 && isWord (d .mask2) in
-      let e5 : upTo5 ≡ true = first-holds upTo5 (eqb (bit (d .mask1) 7) 1) e in
+      let upTo6 : Bool = upTo5 && isWord (d .idmask) in
+      let e6 : upTo6 ≡ true = first-holds upTo6 (eqb (bit (d .mask1) 7) 1) e in
+      let e5 : upTo5 ≡ true = first-holds upTo5 (isWord (d .idmask)) e6 in
       let e4 : upTo4 ≡ true = first-holds upTo4 (isWord (d .mask2)) e5 in
       let e3 : upTo3 ≡ true = first-holds upTo3 (isWord (d .mask1)) e4 in
       let e2 : upTo2 ≡ true = first-holds upTo2 (isWord (d .id)) e3 in
@@ -101,7 +105,8 @@ module _ (top : ℕ) (d : Device) where
         id-word = word-lt (d .id) (second-holds upTo2 (isWord (d .id)) e3);
         mask1-word = word-lt (d .mask1) (second-holds upTo3 (isWord (d .mask1)) e4);
         mask2-word = word-lt (d .mask2) (second-holds upTo4 (isWord (d .mask2)) e5);
-        cp-bit = eqb-true (bit (d .mask1) 7) 1 (second-holds upTo5 (eqb (bit (d .mask1) 7) 1) e);
+        idmask-word = word-lt (d .idmask) (second-holds upTo5 (isWord (d .idmask)) e6);
+        cp-bit = eqb-true (bit (d .mask1) 7) 1 (second-holds upTo6 (eqb (bit (d .mask1) 7) 1) e);
       }
 
 -- the limit has a say in the number of program words alone
@@ -117,6 +122,7 @@ other-limit a b d e h =
       id-word = r .id-word;
       mask1-word = r .mask1-word;
       mask2-word = r .mask2-word;
+      idmask-word = r .idmask-word;
       cp-bit = r .cp-bit;
     })
 
@@ -157,9 +163,9 @@ module _ (d : Device) where
   broken-of-13 e r = let z : _≡_ {A = ℕ} 0 13 = judged-good r ∙ e in omega arith
 
   -- the tests of the code, one by one
-  pub judged-all : rowOk (d .row) ≡ true → wordsUpTo mostWords (d .words) (d .row) ≡ true → d .id < 0x4000 → d .mask1 < 0x4000 → d .mask2 < 0x4000 → bit (d .mask1) 7 ≡ 1 → 0 ≡ recordNumber d
+  pub judged-all : rowOk (d .row) ≡ true → wordsUpTo mostWords (d .words) (d .row) ≡ true → d .id < 0x4000 → d .mask1 < 0x4000 → d .mask2 < 0x4000 → d .idmask < 0x4000 → bit (d .mask1) 7 ≡ 1 → 0 ≡ recordNumber d
   unfolding recordNumber deviceOk deviceUpTo pick
-  judged-all r w i m n b = rw (r, w, is-word (d .id) i, is-word (d .mask1) m, is-word (d .mask2) n, eq-eqb (bit (d .mask1) 7) 1 b)
+  judged-all r w i m n k b = rw (r, w, is-word (d .id) i, is-word (d .mask1) m, is-word (d .mask2) n, is-word (d .idmask) k, eq-eqb (bit (d .mask1) 7) 1 b)
 
   pub judged-row : rowOk (d .row) ≡ false → 13 ≡ recordNumber d
   judged-row f = judged-bad (λ r. true-not-false (r .row-is) f)

@@ -2,6 +2,7 @@
 pub mod Record
 pub mod Memory
 pub mod LawsRecord
+pub mod LawsId
 pub mod LawsMemory
 pub mod LawsImage
 pub mod LawsMask

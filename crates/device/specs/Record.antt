@@ -1,7 +1,8 @@
--- The device record and its rules ('The device table'; refusal 13).
+-- The device record and its rules ('The device table'; refusal 13), and which ID words fit it (#107).
 use Prim.Native.Nat.{ℕ, _%_}
 use mathlib.Core.Bool.{Bool, _&&_, _||_}
 use lib.Dec.{leb, eqb}
+use lib.Bits.{bitAnd}
 use Rattle.words.specs.Choice.{unless}
 use Rattle.words.specs.Word.{isWord, bit}
 use Rattle.device.specs.declared.Device.{Device}
@@ -26,15 +27,16 @@ deviceUpTo most d =
     && isWord (d .id)
     && isWord (d .mask1)
     && isWord (d .mask2)
+    && isWord (d .idmask)
     && eqb (bit (d .mask1) 7) 1
 
 -- a record that keeps the rules
 unfoldable pub deviceOk : Device → Bool
 deviceOk d = deviceUpTo mostWords d
 
--- a board's ID word fits the record
-unfoldable pub idFits : Device → ℕ → Bool
-idFits d word = eqb word (d .id)
+-- a word fits a device if it equals the ID in every bit of the mask
+unfoldable pub fits : Device → ℕ → Bool
+fits d w = isWord w && eqb (bitAnd w (d .idmask)) (bitAnd (d .id) (d .idmask))
 
 -- what the call that judges a record answers
 unfoldable pub recordNumber : Device → ℕ

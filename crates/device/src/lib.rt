@@ -8,16 +8,17 @@ pub use memory::is_protected;
 pub use memory::is_reading;
 pub use memory::programmable;
 pub use memory::under_mask;
-pub use record::id_fits;
+pub use record::fits;
 pub use record::judge;
 
-// A device: its ID word, program words P, row words R, and the masks of the two configuration words. Its name is the table's.
+// A device: its ID word, program words P, row words R, the masks of the two configuration words, and the mask of the ID. Its name is the table's.
 pub struct Device {
     pub id: u16,
     pub words: u16,
     pub row: u16,
     pub mask1: u16,
     pub mask2: u16,
+    pub idmask: u16,
 }
 
 // The most program words that a device may have.

@@ -1,10 +1,10 @@
-// The rules of a device record.
+// The rules of a device record, and the ID words that fit it.
 use crate::Device;
 use crate::MOST_WORDS;
 use words::WORD_LIMIT;
 ghost use mathlib.Core.Path.{_≡_};
 ghost use Prim.Native.Nat.{_<_};
-ghost use Rattle.device.specs.Record.{mostWords, rowOk, wordsUpTo, idFits, recordNumber};
+ghost use Rattle.device.specs.Record.{mostWords, rowOk, wordsUpTo, fits, recordNumber};
 
 // 0, or 13 for a record that breaks the rules.
 pub fn judge(d: Device) -> u8
@@ -23,6 +23,9 @@ pub fn judge(d: Device) -> u8
         return 13;
     }
     if WORD_LIMIT <= d.mask2 {
+        return 13;
+    }
+    if WORD_LIMIT <= d.idmask {
         return 13;
     }
     if d.mask1 / 128 % 2 != 1 {
@@ -56,9 +59,12 @@ fn words_ok(words: u16, row: u16) -> bool
     words <= MOST_WORDS
 }
 
-// Whether a board's ID word fits the record.
-pub fn id_fits(d: Device, word: u16) -> bool
-    ensures { λ r. ⌜ r ≡ idFits d word ⌝ }
+// Whether a word fits the device: it equals the ID in every bit of the mask.
+pub fn fits(d: Device, w: u16) -> bool
+    ensures { λ r. ⌜ r ≡ fits d w ⌝ }
 {
-    word == d.id
+    if WORD_LIMIT <= w {
+        return false;
+    }
+    w & d.idmask == d.id & d.idmask
 }

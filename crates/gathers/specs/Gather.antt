@@ -8,7 +8,7 @@ use Rattle.words.specs.Lists.{build}
 use Rattle.numerals.specs.Text.{lf}
 use Rattle.numerals.specs.Hex.{capitalOf, wordBy, wordText}
 use Rattle.device.specs.Memory.{readingTail, readingOk}
-use Rattle.sheet.specs.Sheet.{sheetText, sameText}
+use Rattle.sheet.specs.Sheet.{sheetWith, sameText, firstLine}
 use Rattle.print.specs.Print.{refusedText}
 use Rattle.board.specs.Open.{recordOf, openNumber}
 
@@ -32,7 +32,8 @@ gatherNumber table sheet answers =
     (unless (answersOk (recordOf table sheet .words) answers) 21
     0)
 
+-- line 1 stays the board's
 unfoldable pub gatherText : (table sheet answers : List ℕ) → List ℕ
 gatherText table sheet answers =
     unless (eqb (gatherNumber table sheet answers) 0) (refusedText (gatherNumber table sheet answers) 0 0)
-    (sheetText (recordOf table sheet) (answersIn (recordOf table sheet .words) answers))
+    (sheetWith (firstLine sheet .id) (recordOf table sheet) (answersIn (recordOf table sheet .words) answers))

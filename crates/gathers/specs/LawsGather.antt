@@ -10,8 +10,9 @@ use lib.ListN.{length}
 use borrow.Author.Tests.{eq-eqb, ne-eqb}
 use Rattle.words.specs.LawsChoice.{pick-true, pick-false}
 use Rattle.device.specs.declared.Device.{Device}
-use Rattle.sheet.specs.Sheet.{sheetText}
-use Rattle.sheet.specs.LawsSheet.{length-sheet}
+use Rattle.sheet.specs.declared.Line1.{Line1}
+use Rattle.sheet.specs.Sheet.{sheetWith, firstLine}
+use Rattle.sheet.specs.LawsSheet.{length-with}
 use Rattle.print.specs.Print.{refusedText}
 use Rattle.print.specs.LawsLines.{either-short}
 use Rattle.board.specs.Open.{recordOf, openNumber}
@@ -45,10 +46,11 @@ module _ (table sheet answers : List ℕ) where
           (unfold gatherNumber in pick-true _ _ _ found ∙ pick-false _ _ _ (ap (λ x. answersOk (x .words) answers) (sym is) ∙ f))
           (λ y. omega (arith, y))
 
-      pub gather-found : answersOk (d .words) answers ≡ true → sheetText d (answersIn (d .words) answers) ≡ gatherText table sheet answers
+      pub gather-found : answersOk (d .words) answers ≡ true → (first : Line1) → first ≡ firstLine sheet
+          → sheetWith (first .id) d (answersIn (d .words) answers) ≡ gatherText table sheet answers
       unfolding gatherText
-      gather-found y =
-          ap (λ x. sheetText x (answersIn (x .words) answers)) is
+      gather-found y first l =
+          (λ i. sheetWith (l i .id) (is i) (answersIn (is i .words) answers))
           ∙ sym (pick-true _ _ _ (eq-eqb (gatherNumber table sheet answers) 0
           (unfold gatherNumber in pick-true _ _ _ found ∙ pick-true _ _ _ (ap (λ x. answersOk (x .words) answers) (sym is) ∙ y))))
 
@@ -65,5 +67,5 @@ module _ (table sheet answers : List ℕ) where
   unfolding gatherText
   gather-short =
       either-short 46135 (omega arith) (gatherNumber table sheet answers) 0 0 _
-      (λ z. rw (length-sheet (recordOf table sheet) (answersIn (recordOf table sheet .words) answers))
+      (λ z. rw (length-with (firstLine sheet .id) (recordOf table sheet) (answersIn (recordOf table sheet .words) answers))
       (served-sheet (recordOf table sheet) (opened-served table sheet (record-there z))))

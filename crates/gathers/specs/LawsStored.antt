@@ -18,7 +18,9 @@ use Rattle.device.specs.Record.{deviceUpTo}
 use Rattle.device.specs.Memory.{readingTail, readingOk}
 use Rattle.device.specs.LawsMemory.{reading-each}
 use Rattle.sheet.specs.declared.Written.{Written}
-use Rattle.sheet.specs.Sheet.{sheetText, sheetLength, written, writtenText}
+use Rattle.sheet.specs.Sheet.{sheetWith, sheetText, sheetLength, written, writtenText}
+use Rattle.sheet.specs.LawsWrite.{with-text}
+use Rattle.device.specs.LawsId.{withId, with-id}
 use Rattle.sheet.specs.LawsSheet.{length-sheet}
 use Rattle.board.specs.Open.{mostProgram}
 use Rattle.board.specs.LawsOpen.{served-sound, served-sheet}
@@ -76,29 +78,36 @@ module _ (d : Device) (served : deviceUpTo mostProgram d ≡ true) where
     good : readingOk (d .words) (take (d .words + readingTail) (words ++ rest)) ≡ true
     good = ap (readingOk (d .words)) front ∙ answers-sound (d .words) t ok
 
-    module _ (w : Written) (f : w ≡ written d (take (d .words + readingTail) (words ++ rest)) (replicate 46135 0)) where
-      room : sheetLength d ≤ length {A = ℕ} (replicate 46135 0)
-      room = rw (length-replicate {A = ℕ} 46135 0) (served-sheet d served)
+    -- written under the record with line 1's ID
+    module _ (id : ℕ) (small : id < 0x4000) (w : Written) (f : w ≡ written (withId d id) (take (d .words + readingTail) (words ++ rest)) (replicate 46135 0)) where
+      own : deviceUpTo mostProgram (withId d id) ≡ true
+      own = with-id d id mostProgram served small
 
-      is : written d (take (d .words + readingTail) (words ++ rest)) (replicate 46135 0) ≡ record { number = 0; length = sheetLength d }
+      room : sheetLength (withId d id) ≤ length {A = ℕ} (replicate 46135 0)
+      room = rw (length-replicate {A = ℕ} 46135 0) (served-sheet (withId d id) own)
+
+      is : written (withId d id) (take (d .words + readingTail) (words ++ rest)) (replicate 46135 0) ≡ record { number = 0; length = sheetLength (withId d id) }
       unfolding written pick
-      is = rw (served-sound d served, good, le-leb (sheetLength d) (length {A = ℕ} (replicate 46135 0)) room)
+      is = rw (served-sound (withId d id) own, good, le-leb (sheetLength (withId d id)) (length {A = ℕ} (replicate 46135 0)) room)
 
-      long : w .length ≡ sheetLength d
+      long : w .length ≡ sheetLength (withId d id)
       long = ap (λ x. x .length) (f ∙ is)
 
       pub sheet-short : w .length ≤ 46135
-      sheet-short = rw long (served-sheet d served)
+      sheet-short = rw long (served-sheet (withId d id) own)
 
-      pub sheet-front : (text : List ℕ) → text ≡ writtenText d (take (d .words + readingTail) (words ++ rest)) (replicate 46135 0) → take (w .length) text ≡ sheetText d (answersIn (d .words) t)
+      pub sheet-front : (text : List ℕ) → text ≡ writtenText (withId d id) (take (d .words + readingTail) (words ++ rest)) (replicate 46135 0)
+          → take (w .length) text ≡ sheetWith id d (answersIn (d .words) t)
       unfolding writtenText
       sheet-front text g =
           ap (take (w .length)) (g ∙ pick-true _ _ _ (eq-eqb _ 0 (ap (λ x. x .number) is)))
-          ∙ (ap (λ l. take (w .length) (sets (replicate 46135 0) 0 (sheetText d l))) front
-          ∙ (ap (take (w .length)) placed ∙ take-at whole _ (w .length) (length-sheet d (answersIn (d .words) t) ∙ sym long)))
+          ∙ (ap (λ l. take (w .length) (sets (replicate 46135 0) 0 (sheetText (withId d id) l))) front
+          ∙ (ap (take (w .length)) placed
+          ∙ (take-at whole _ (w .length) (length-sheet (withId d id) (answersIn (d .words) t) ∙ sym long)
+          ∙ with-text d id (answersIn (d .words) t))))
         where
           whole : List ℕ
-          whole = sheetText d (answersIn (d .words) t)
+          whole = sheetText (withId d id) (answersIn (d .words) t)
 
           placed : sets (replicate 46135 0) 0 whole ≡ whole ++ drop (0 + length whole) (replicate 46135 0)
-          placed = sets-eq whole (replicate 46135 0) 0 (rw (zero-add, length-sheet d (answersIn (d .words) t)) room)
+          placed = sets-eq whole (replicate 46135 0) 0 (rw (zero-add, length-sheet (withId d id) (answersIn (d .words) t)) room)

@@ -5,9 +5,9 @@ use device::Device;
 use device::READING_TAIL;
 ghost use mathlib.Core.Path.{_≡_};
 ghost use mathlib.Core.Bool.{true};
-ghost use Prim.Native.Nat.{_≤_};
+ghost use Prim.Native.Nat.{_≤_, _<_};
 ghost use Rattle.device.specs.Record.{deviceUpTo};
-ghost use Rattle.sheet.specs.Sheet.{sheetText};
+ghost use Rattle.sheet.specs.Sheet.{sheetWith};
 ghost use Rattle.print.specs.Print.{Prints};
 ghost use Rattle.board.specs.Open.{mostProgram};
 ghost use Rattle.gathers.specs.Gather.{answersIn, answersOk, gatherText};
@@ -27,20 +27,29 @@ pub fn gather(table: &[u8], sheet: &[u8], answers: &[u8], out: &mut [u8]) -> usi
     if answers::lines_ok(device.words as usize, answers) {} else {
         return print::refusal(out, 21, 0, 0);
     }
-    put_sheet(device, answers, out)
+    let first = sheet::read_id(sheet);
+    put_sheet(device, first.id, answers, out)
 }
 
-// The sheet of the words in a text that was judged.
-fn put_sheet(d: Device, answers: &[u8], out: &mut [u8]) -> usize
-    requires { ⌜ (deviceUpTo mostProgram d ≡ true) × (answersOk (d .words) (now answers) ≡ true) ⌝ }
-    ensures { λ r. ⌜ Prints (sheetText d (answersIn (d .words) (now (answers .entry)))) (now (out .entry)) r (now (out .exit)) ⌝ }
+// The sheet of the words in a text that was judged, with this ID on line 1.
+fn put_sheet(d: Device, id: u16, answers: &[u8], out: &mut [u8]) -> usize
+    requires { ⌜ (deviceUpTo mostProgram d ≡ true) × (answersOk (d .words) (now answers) ≡ true) × (id < 0x4000) ⌝ }
+    ensures { λ r. ⌜ Prints (sheetWith id d (answersIn (d .words) (now (answers .entry)))) (now (out .entry)) r (now (out .exit)) ⌝ }
 {
     let program = d.words as usize;
     let count = program + READING_TAIL;
     let mut words = [0u16; board::MOST_READING];
     answers::store(program, answers, &mut words[..count]);
     let mut sheet = [0u8; MOST_SHEET];
-    let written = sheet::write_sheet(d, &words[..count], &mut sheet);
+    let named = Device {
+        id,
+        words: d.words,
+        row: d.row,
+        mask1: d.mask1,
+        mask2: d.mask2,
+        idmask: d.idmask,
+    };
+    let written = sheet::write_sheet(named, &words[..count], &mut sheet);
     let length = written.length;
     print::text(out, &sheet[..length])
 }

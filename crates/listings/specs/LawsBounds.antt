@@ -11,8 +11,8 @@ use Rattle.target.specs.Stream.{bytesOf}
 use Rattle.target.specs.LawsStream.{length-bytes}
 use Rattle.device.specs.declared.Device.{Device}
 use Rattle.device.specs.Record.{deviceUpTo}
-use Rattle.sheet.specs.Sheet.{sheetText}
-use Rattle.sheet.specs.LawsSheet.{length-sheet}
+use Rattle.sheet.specs.Sheet.{sheetWith}
+use Rattle.sheet.specs.LawsSheet.{length-with}
 use Rattle.print.specs.LawsLines.{either-short}
 use Rattle.board.specs.Open.{mostProgram, recordOf, openNumber, boardNumber}
 use Rattle.board.specs.LawsOpen.{served-sheet, opened-served}
@@ -52,9 +52,9 @@ plan-short number s few = either-short mostPrinted (omega arith) number 0 0 (str
 
 -- ---- sheets
 
-left-short : (number : ℕ) (d : Device) → deviceUpTo mostProgram d ≡ true → (reading : List ℕ) → length (leftText number d reading) ≤ mostLeft
+left-short : (number id : ℕ) (d : Device) → deviceUpTo mostProgram d ≡ true → (reading : List ℕ) → length (leftText number id d reading) ≤ mostLeft
 unfolding leftText
-left-short number d served reading = either-short mostLeft (omega arith) number 0 0 (sheetText d reading) (λ z. rw (length-sheet d reading) (served-sheet d served))
+left-short number id d served reading = either-short mostLeft (omega arith) number 0 0 (sheetWith id d reading) (λ z. rw (length-with id d reading) (served-sheet d served))
 
 -- ---- the programs
 
@@ -82,11 +82,11 @@ unfolding wantedText
 wanted-short table sheet hex =
     either-short mostLeft (omega arith) (boardNumber table sheet) 0 0 _
     (λ z. either-short mostLeft (omega arith) (hexOf table sheet hex .number) (hexOf table sheet hex .line) (hexOf table sheet hex .column) _
-    (λ y. left-short _ (recordOf table sheet) (board-served table sheet z) _))
+    (λ y. left-short _ _ (recordOf table sheet) (board-served table sheet z) _))
 
 pub wanted-fresh-short : (table sheet hex : List ℕ) → length (wantedFreshText table sheet hex) ≤ 46135
 unfolding wantedFreshText
 wanted-fresh-short table sheet hex =
     either-short mostLeft (omega arith) (boardNumber table sheet) 0 0 _
     (λ z. either-short mostLeft (omega arith) (hexOf table sheet hex .number) (hexOf table sheet hex .line) (hexOf table sheet hex .column) _
-    (λ y. left-short _ (recordOf table sheet) (board-served table sheet z) _))
+    (λ y. left-short _ _ (recordOf table sheet) (board-served table sheet z) _))

@@ -20,7 +20,9 @@ use Rattle.device.specs.Record.{deviceUpTo}
 use Rattle.device.specs.Memory.{readingTail, programmable, imageOk, readingOk}
 use Rattle.device.specs.LawsMemory.{reading-long, reading-each}
 use Rattle.sheet.specs.declared.Written.{Written}
-use Rattle.sheet.specs.Sheet.{sheetText, sheetLength, written, writtenText}
+use Rattle.sheet.specs.Sheet.{sheetWith, sheetText, sheetLength, written, writtenText}
+use Rattle.sheet.specs.LawsWrite.{with-text}
+use Rattle.device.specs.LawsId.{withId, with-id}
 use Rattle.sheet.specs.LawsSheet.{length-sheet}
 use Rattle.plan.specs.Wanted.{wanted}
 use Rattle.plan.specs.Answers.{updateNumber, freshNumber}
@@ -122,36 +124,40 @@ module _ (fresh : Bool) (d : Device) (image reading : List ℕ) (ok : readingOk 
     pub left-sound : readingOk (d .words) (take (d .words + readingTail) (words ++ rest)) ≡ true
     left-sound = ap (readingOk (d .words)) (front ∙ same) ∙ aim-sound
 
-    pub left-found : (number : ℕ) → number ≡ 0
-        → sheetText d (take (d .words + readingTail) (words ++ rest)) ≡ leftText number d (programmed d image (knownTo fresh reading) reading)
+    pub left-found : (number id : ℕ) → number ≡ 0
+        → sheetWith id d (take (d .words + readingTail) (words ++ rest)) ≡ leftText number id d (programmed d image (knownTo fresh reading) reading)
     unfolding leftText
-    left-found number y = ap (sheetText d) (front ∙ e) ∙ sym (pick-true (eqb number 0) _ _ (eq-eqb number 0 y))
+    left-found number id y = ap (sheetWith id d) (front ∙ e) ∙ sym (pick-true (eqb number 0) _ _ (eq-eqb number 0 y))
 
-pub left-refused : (number : ℕ) (d : Device) (reading : List ℕ) → (number ≡ 0 → ⊥) → refusedText number 0 0 ≡ leftText number d reading
+pub left-refused : (number id : ℕ) (d : Device) (reading : List ℕ) → (number ≡ 0 → ⊥) → refusedText number 0 0 ≡ leftText number id d reading
 unfolding leftText
-left-refused number d reading n = sym (pick-false (eqb number 0) _ _ (ne-eqb number 0 n))
+left-refused number id d reading n = sym (pick-false (eqb number 0) _ _ (ne-eqb number 0 n))
 
--- ---- the sheet of a reading
+-- ---- the sheet of a reading, written under the record with line 1's ID
 
-module _ (d : Device) (served : deviceUpTo mostProgram d ≡ true) (reading : List ℕ) (ok : readingOk (d .words) reading ≡ true) (text : List ℕ) (long : length text ≡ 46135)
-    (w : Written) (e : w ≡ written d reading text) where
-  fits : sheetLength d ≤ length text
-  fits = let m : sheetLength d ≤ 46135 = served-sheet d served in omega arith
+module _ (d : Device) (served : deviceUpTo mostProgram d ≡ true) (reading : List ℕ) (ok : readingOk (d .words) reading ≡ true) (id : ℕ) (small : id < 0x4000)
+    (text : List ℕ) (long : length text ≡ 46135) (w : Written) (e : w ≡ written (withId d id) reading text) where
+  own : deviceUpTo mostProgram (withId d id) ≡ true
+  own = with-id d id mostProgram served small
 
-  sheet-is : written d reading text ≡ record { number = 0; length = sheetLength d }
+  room : sheetLength (withId d id) ≤ length text
+  room = let m : sheetLength (withId d id) ≤ 46135 = served-sheet (withId d id) own in omega arith
+
+  sheet-is : written (withId d id) reading text ≡ record { number = 0; length = sheetLength (withId d id) }
   unfolding written pick
-  sheet-is = rw (served-sound d served, ok, le-leb (sheetLength d) (length text) fits)
+  sheet-is = rw (served-sound (withId d id) own, ok, le-leb (sheetLength (withId d id)) (length text) room)
 
-  sheet-long : w .length ≡ sheetLength d
+  sheet-long : w .length ≡ sheetLength (withId d id)
   sheet-long = ap (λ x. x .length) (e ∙ sheet-is)
 
   pub sheet-short : w .length ≤ 46135
-  sheet-short = let m : sheetLength d ≤ 46135 = served-sheet d served in let l : w .length ≡ sheetLength d = sheet-long in omega arith
+  sheet-short = let m : sheetLength (withId d id) ≤ 46135 = served-sheet (withId d id) own in let l : w .length ≡ sheetLength (withId d id) = sheet-long in omega arith
 
-  pub sheet-whole : (text′ : List ℕ) → text′ ≡ writtenText d reading text → take (w .length) text′ ≡ sheetText d reading
+  pub sheet-whole : (text′ : List ℕ) → text′ ≡ writtenText (withId d id) reading text → take (w .length) text′ ≡ sheetWith id d reading
   unfolding writtenText
   sheet-whole text′ f =
-      let stored : text′ ≡ sets text 0 (sheetText d reading) = f ∙ pick-true (eqb (written d reading text .number) 0) _ _ (eq-eqb _ 0 (ap (λ x. x .number) sheet-is)) in
-      let count : w .length ≡ length (sheetText d reading) = sheet-long ∙ sym (length-sheet d reading) in
-      let room : 0 + length (sheetText d reading) ≤ length text = rw (zero-add, length-sheet d reading) fits in
-      ap (take (w .length)) (stored ∙ sets-eq (sheetText d reading) text 0 room) ∙ take-at (sheetText d reading) _ (w .length) (sym count)
+      let stored : text′ ≡ sets text 0 (sheetText (withId d id) reading) = f ∙ pick-true (eqb (written (withId d id) reading text .number) 0) _ _ (eq-eqb _ 0 (ap (λ x. x .number) sheet-is)) in
+      let count : w .length ≡ length (sheetText (withId d id) reading) = sheet-long ∙ sym (length-sheet (withId d id) reading) in
+      let fit : 0 + length (sheetText (withId d id) reading) ≤ length text = rw (zero-add, length-sheet (withId d id) reading) room in
+      ap (take (w .length)) (stored ∙ sets-eq (sheetText (withId d id) reading) text 0 fit)
+      ∙ (take-at (sheetText (withId d id) reading) _ (w .length) (sym count) ∙ with-text d id reading)

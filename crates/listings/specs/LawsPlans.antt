@@ -26,6 +26,8 @@ use Rattle.plan.specs.Steps.{updateSteps, freshSteps}
 use Rattle.plan.specs.Answers.{updateNumber, freshNumber, Plans}
 use Rattle.plan.specs.Demands.{programmed}
 use Rattle.plan.specs.LawsPlanBounds.{update-bound, fresh-bound}
+use Rattle.sheet.specs.declared.Line1.{Line1}
+use Rattle.sheet.specs.Sheet.{firstLine}
 use Rattle.print.specs.Print.{refusedText}
 use Rattle.board.specs.Open.{mostProgram, recordOf, boardNumber, boardReading}
 use Rattle.board.specs.LawsOpen.{served-sound, served-most}
@@ -47,14 +49,14 @@ unfoldable pub knownTo : (fresh : Bool) → (reading : List ℕ) → List ℕ
 knownTo fresh reading = pick fresh [] reading
 
 -- the text of its plan: the sheet that is left, or the stream
-unfoldable pub endText : (fresh left : Bool) → Device → (image reading : List ℕ) → List ℕ
-endText fresh left d image reading =
-    pick left (leftText (planNumber fresh d image reading) d (programmed d image (knownTo fresh reading) reading))
+unfoldable pub endText : (fresh left : Bool) (id : ℕ) → Device → (image reading : List ℕ) → List ℕ
+endText fresh left id d image reading =
+    pick left (leftText (planNumber fresh d image reading) id d (programmed d image (knownTo fresh reading) reading))
     (planText (planNumber fresh d image reading) (bytesOf (planSteps fresh d image reading)))
 
 -- the text for what the HEX file came to
-unfoldable givenText : (fresh left : Bool) → Device → (reading : List ℕ) → Outcome → List ℕ
-givenText fresh left d reading given = pick (eqb (given .number) 0) (endText fresh left d (given .image) reading) (refusedText (given .number) (given .line) (given .column))
+unfoldable givenText : (fresh left : Bool) (id : ℕ) → Device → (reading : List ℕ) → Outcome → List ℕ
+givenText fresh left id d reading given = pick (eqb (given .number) 0) (endText fresh left id d (given .image) reading) (refusedText (given .number) (given .line) (given .column))
 
 unfoldable pub programText : (fresh left : Bool) → (table sheet hex : List ℕ) → List ℕ
 programText fresh left table sheet hex =
@@ -91,24 +93,24 @@ module _ (fresh : Bool) (d : Device) (image reading : List ℕ) where
     unfolding planNumber planSteps pick
     plans-update e p = rw e p
 
-  module _ (left : Bool) where
+  module _ (left : Bool) (id : ℕ) where
     pub end-left : left ≡ true → (number : ℕ) → number ≡ planNumber fresh d image reading
-        → leftText number d (programmed d image (knownTo fresh reading) reading) ≡ endText fresh left d image reading
+        → leftText number id d (programmed d image (knownTo fresh reading) reading) ≡ endText fresh left id d image reading
     unfolding endText
-    end-left e number n = ap (λ k. leftText k d (programmed d image (knownTo fresh reading) reading)) n ∙ sym (pick-true left _ _ e)
+    end-left e number n = ap (λ k. leftText k id d (programmed d image (knownTo fresh reading) reading)) n ∙ sym (pick-true left _ _ e)
 
-    pub end-stream : left ≡ false → planText (planNumber fresh d image reading) (bytesOf (planSteps fresh d image reading)) ≡ endText fresh left d image reading
+    pub end-stream : left ≡ false → planText (planNumber fresh d image reading) (bytesOf (planSteps fresh d image reading)) ≡ endText fresh left id d image reading
     unfolding endText
     end-stream e = sym (pick-false left _ _ e)
 
 -- ---- what the HEX file came to
 
-module _ (fresh left : Bool) (d : Device) (reading : List ℕ) (given : Outcome) where
-  given-refused : (given .number ≡ 0 → ⊥) → refusedText (given .number) (given .line) (given .column) ≡ givenText fresh left d reading given
+module _ (fresh left : Bool) (id : ℕ) (d : Device) (reading : List ℕ) (given : Outcome) where
+  given-refused : (given .number ≡ 0 → ⊥) → refusedText (given .number) (given .line) (given .column) ≡ givenText fresh left id d reading given
   unfolding givenText
   given-refused n = sym (pick-false (eqb (given .number) 0) _ _ (ne-eqb (given .number) 0 n))
 
-  given-found : given .number ≡ 0 → endText fresh left d (given .image) reading ≡ givenText fresh left d reading given
+  given-found : given .number ≡ 0 → endText fresh left id d (given .image) reading ≡ givenText fresh left id d reading given
   unfolding givenText
   given-found z = sym (pick-true (eqb (given .number) 0) _ _ (eq-eqb (given .number) 0 z))
 
@@ -124,14 +126,14 @@ read-any d hex image sound long =
 module _ (fresh left : Bool) (table sheet hex : List ℕ) where
   -- the text for a board that is not refused
   whole : List ℕ
-  whole = givenText fresh left (recordOf table sheet) (boardReading table sheet) (hexOf table sheet hex)
+  whole = givenText fresh left (firstLine sheet .id) (recordOf table sheet) (boardReading table sheet) (hexOf table sheet hex)
 
   program-board : programText fresh left table sheet hex ≡ pick (eqb (boardNumber table sheet) 0) whole (refusedText (boardNumber table sheet) 0 0)
   unfolding whole
   program-board = by fresh left
     where
       by : (f l : Bool) → programText f l table sheet hex
-          ≡ pick (eqb (boardNumber table sheet) 0) (givenText f l (recordOf table sheet) (boardReading table sheet) (hexOf table sheet hex)) (refusedText (boardNumber table sheet) 0 0)
+          ≡ pick (eqb (boardNumber table sheet) 0) (givenText f l (firstLine sheet .id) (recordOf table sheet) (boardReading table sheet) (hexOf table sheet hex)) (refusedText (boardNumber table sheet) 0 0)
       by true true = unfold programText wantedFreshText givenText endText planNumber knownTo pick in refl
       by false true = unfold programText wantedText givenText endText planNumber knownTo pick in refl
       by true false = unfold programText freshText givenText endText planNumber planSteps pick in refl
@@ -149,9 +151,9 @@ module _ (fresh left : Bool) (table sheet hex : List ℕ) where
       unfolding whole
       program-long h =
           let long : hexOf table sheet hex ≡ refusedAt (recordOf table sheet .words) 1 0 0 = unfold hexOf in pick-false (leb (length hex) 65536) _ _ (lt-leb (length hex) 65536 h) in
-          let told : refusedText 1 0 0 ≡ givenText fresh left (recordOf table sheet) (boardReading table sheet) (refusedAt (recordOf table sheet .words) 1 0 0) =
+          let told : refusedText 1 0 0 ≡ givenText fresh left (firstLine sheet .id) (recordOf table sheet) (boardReading table sheet) (refusedAt (recordOf table sheet .words) 1 0 0) =
           unfold givenText refusedAt pick in refl in
-          told ∙ (ap (givenText fresh left (recordOf table sheet) (boardReading table sheet)) (sym long) ∙ program-whole)
+          told ∙ (ap (givenText fresh left (firstLine sheet .id) (recordOf table sheet) (boardReading table sheet)) (sym long) ∙ program-whole)
 
       module _ (d : Device) (reading : List ℕ) (b : Board table sheet d reading) (h : length hex ≤ 65536) (image : List ℕ) (long : length image ≡ d .words + readingTail)
           (r : ReadHex) (image′ : List ℕ) (p : HexRead d hex image r image′) where
@@ -173,15 +175,15 @@ module _ (fresh left : Bool) (table sheet hex : List ℕ) where
         unfolding readAnswer
         column-is = ap (λ x. x .column) (p .answer)
 
-        read-whole : givenText fresh left d (take (d .words + readingTail) reading) (textRead d hex image) ≡ programText fresh left table sheet hex
+        read-whole : givenText fresh left (firstLine sheet .id) d (take (d .words + readingTail) reading) (textRead d hex image) ≡ programText fresh left table sheet hex
         unfolding whole
         read-whole =
-            ap (givenText fresh left d (take (d .words + readingTail) reading)) given
-            ∙ (ap (λ l. givenText fresh left d l (hexOf table sheet hex)) (b .front)
-            ∙ (ap (λ x. givenText fresh left x (boardReading table sheet) (hexOf table sheet hex)) (b .record-is) ∙ program-whole))
+            ap (givenText fresh left (firstLine sheet .id) d (take (d .words + readingTail) reading)) given
+            ∙ (ap (λ l. givenText fresh left (firstLine sheet .id) d l (hexOf table sheet hex)) (b .front)
+            ∙ (ap (λ x. givenText fresh left (firstLine sheet .id) x (boardReading table sheet) (hexOf table sheet hex)) (b .record-is) ∙ program-whole))
 
         pub program-hex : (r .number ≡ 0 → ⊥) → refusedText (r .number) (r .line) (r .column) ≡ programText fresh left table sheet hex
-        program-hex n = rw (number-is, line-is, column-is) (given-refused fresh left d (take (d .words + readingTail) reading) (textRead d hex image) (λ z. n (number-is ∙ z)) ∙ read-whole)
+        program-hex n = rw (number-is, line-is, column-is) (given-refused fresh left (firstLine sheet .id) d (take (d .words + readingTail) reading) (textRead d hex image) (λ z. n (number-is ∙ z)) ∙ read-whole)
 
         module _ (y : r .number ≡ 0) (rest : List ℕ) where
           count : length image′ ≡ d .words + readingTail
@@ -193,10 +195,11 @@ module _ (fresh left : Bool) (table sheet hex : List ℕ) where
           pub program-front : length (take (d .words + readingTail) (image′ ++ rest)) ≡ d .words + readingTail
           program-front = length-take-le (d .words + readingTail) (image′ ++ rest) program-within
 
-          pub program-found : endText fresh left d (take (d .words + readingTail) (image′ ++ rest)) (take (d .words + readingTail) reading) ≡ programText fresh left table sheet hex
-          program-found =
-              ap (λ l. endText fresh left d l (take (d .words + readingTail) reading)) (take-at image′ rest (d .words + readingTail) count ∙ p .image-is)
-              ∙ (given-found fresh left d (take (d .words + readingTail) reading) (textRead d hex image) (sym number-is ∙ y) ∙ read-whole)
+          pub program-found : (first : Line1) → first ≡ firstLine sheet
+              → endText fresh left (first .id) d (take (d .words + readingTail) (image′ ++ rest)) (take (d .words + readingTail) reading) ≡ programText fresh left table sheet hex
+          program-found first f =
+              (λ i. endText fresh left (f i .id) d ((take-at image′ rest (d .words + readingTail) count ∙ p .image-is) i) (take (d .words + readingTail) reading))
+              ∙ (given-found fresh left (firstLine sheet .id) d (take (d .words + readingTail) reading) (textRead d hex image) (sym number-is ∙ y) ∙ read-whole)
 
 -- ---- each planner has room
 

@@ -7,7 +7,7 @@ use plan::Planned;
 use words::NOT_GIVEN;
 ghost use mathlib.Core.Path.{_≡_};
 ghost use mathlib.Core.Bool.{true};
-ghost use Prim.Native.Nat.{_+_, _≤_};
+ghost use Prim.Native.Nat.{_+_, _≤_, _<_};
 ghost use lib.ListN.{length};
 ghost use Rattle.device.specs.Record.{deviceUpTo};
 ghost use Rattle.device.specs.Memory.{readingTail, readingOk};
@@ -75,25 +75,35 @@ fn put_program(
     if given.number != 0 {
         return print::refusal(out, given.number, given.line, given.column);
     }
-    put_planned(device, &image[..count], &reading[..count], fresh, left, out)
+    let first = sheet::read_id(sheet);
+    put_planned(
+        device,
+        first.id,
+        &image[..count],
+        &reading[..count],
+        fresh,
+        left,
+        out,
+    )
 }
 
-// The text for an image and a reading: the planner is asked in any case, since what it refuses is refused here too.
+// The text for an image and a reading, a sheet with this ID on line 1: the planner is asked in any case, since what it refuses is refused here too.
 fn put_planned(
     d: Device,
+    id: u16,
     image: &[u16],
     reading: &[u16],
     fresh: bool,
     left: bool,
     out: &mut [u8],
 ) -> usize
-    requires { ⌜ (deviceUpTo mostProgram d ≡ true) × (readingOk (d .words) (now reading) ≡ true) ⌝ }
-    ensures { λ r. ⌜ Prints (endText fresh left d (now (image .entry)) (now (reading .entry))) (now (out .entry)) r (now (out .exit)) ⌝ }
+    requires { ⌜ (deviceUpTo mostProgram d ≡ true) × (readingOk (d .words) (now reading) ≡ true) × (id < 0x4000) ⌝ }
+    ensures { λ r. ⌜ Prints (endText fresh left id d (now (image .entry)) (now (reading .entry))) (now (out .entry)) r (now (out .exit)) ⌝ }
 {
     let mut stream = [0u8; streams::MOST_STREAM];
     let planned = ask_planner(d, image, reading, fresh, &mut stream);
     if left {
-        return wanteds::put_left(d, image, reading, fresh, planned.number, out);
+        return wanteds::put_left(d, id, image, reading, fresh, planned.number, out);
     }
     streams::put_plan(out, planned, &stream)
 }

@@ -7,7 +7,7 @@ ghost use Prim.Native.Nat.{_<_};
 ghost use lib.ListN.{length};
 ghost use Rattle.device.specs.Record.{deviceUpTo};
 ghost use Rattle.device.specs.Memory.{readingOk};
-ghost use Rattle.sheet.specs.Sheet.{sheetText};
+ghost use Rattle.sheet.specs.Sheet.{sheetWith};
 ghost use Rattle.plan.specs.Demands.{programmed};
 ghost use Rattle.print.specs.Print.{Prints};
 ghost use Rattle.board.specs.Open.{mostProgram};
@@ -18,17 +18,18 @@ ghost use Rattle.listings.specs.LawsLeft.{leftWord};
 // The length of the longest sheet.
 const MOST_SHEET: usize = 46135;
 
-// The planner's refusal, or the sheet of what the board is to hold.
+// The planner's refusal, or the sheet of what the board is to hold with this ID on line 1.
 pub(crate) fn put_left(
     d: Device,
+    id: u16,
     image: &[u16],
     reading: &[u16],
     fresh: bool,
     number: u8,
     out: &mut [u8],
 ) -> usize
-    requires { ⌜ (deviceUpTo mostProgram d ≡ true) × (readingOk (d .words) (now reading) ≡ true) × (number ≡ planNumber fresh d (now image) (now reading)) ⌝ }
-    ensures { λ r. ⌜ Prints (leftText number d (programmed d (now (image .entry)) (knownTo fresh (now (reading .entry))) (now (reading .entry)))) (now (out .entry)) r (now (out .exit)) ⌝ }
+    requires { ⌜ (deviceUpTo mostProgram d ≡ true) × (readingOk (d .words) (now reading) ≡ true) × (number ≡ planNumber fresh d (now image) (now reading)) × (id < 0x4000) ⌝ }
+    ensures { λ r. ⌜ Prints (leftText number id d (programmed d (now (image .entry)) (knownTo fresh (now (reading .entry))) (now (reading .entry)))) (now (out .entry)) r (now (out .exit)) ⌝ }
 {
     if number != 0 {
         return print::refusal(out, number, 0, 0);
@@ -36,7 +37,7 @@ pub(crate) fn put_left(
     let count = (d.words as usize) + READING_TAIL;
     let mut words = [0u16; board::MOST_READING];
     fill(d, image, reading, fresh, &mut words[..count]);
-    put_sheet(d, &words[..count], out)
+    put_sheet(d, id, &words[..count], out)
 }
 
 // Stores each word that the board is to hold.
@@ -65,13 +66,21 @@ fn left_word(d: Device, image: &[u16], reading: &[u16], fresh: bool, i: usize) -
     plan::wanted(d, image, reading, i)
 }
 
-// The sheet of a reading.
-fn put_sheet(d: Device, reading: &[u16], out: &mut [u8]) -> usize
-    requires { ⌜ (deviceUpTo mostProgram d ≡ true) × (readingOk (d .words) (now reading) ≡ true) ⌝ }
-    ensures { λ r. ⌜ Prints (sheetText d (now (reading .entry))) (now (out .entry)) r (now (out .exit)) ⌝ }
+// The sheet of a reading with this ID on line 1.
+fn put_sheet(d: Device, id: u16, reading: &[u16], out: &mut [u8]) -> usize
+    requires { ⌜ (deviceUpTo mostProgram d ≡ true) × (readingOk (d .words) (now reading) ≡ true) × (id < 0x4000) ⌝ }
+    ensures { λ r. ⌜ Prints (sheetWith id d (now (reading .entry))) (now (out .entry)) r (now (out .exit)) ⌝ }
 {
     let mut sheet = [0u8; MOST_SHEET];
-    let written = sheet::write_sheet(d, reading, &mut sheet);
+    let named = Device {
+        id,
+        words: d.words,
+        row: d.row,
+        mask1: d.mask1,
+        mask2: d.mask2,
+        idmask: d.idmask,
+    };
+    let written = sheet::write_sheet(named, reading, &mut sheet);
     let length = written.length;
     print::text(out, &sheet[..length])
 }

@@ -9,7 +9,7 @@ use lib.ListN.{length, getD}
 use lib.Seq.{sets}
 use Rattle.words.specs.Choice.{pick, unless}
 use Rattle.device.specs.declared.Device.{Device}
-use Rattle.device.specs.Record.{deviceOk, idFits}
+use Rattle.device.specs.Record.{deviceOk, fits}
 use Rattle.device.specs.Memory.{deviceId, imageOk, readingOk, protected}
 use Rattle.target.specs.declared.Order.{Order}
 use Rattle.target.specs.Stream.{bytesOf}
@@ -33,7 +33,7 @@ updateNumber d image reading =
     unless (deviceOk d) 13
     (unless (imageOk (d .words) image) 20
     (unless (readingOk (d .words) reading) 21
-    (unless (idFits d (getD reading (d .words + deviceId) 0)) 22
+    (unless (fits d (getD reading (d .words + deviceId) 0)) 22
     (unless (not (protected (d .words) reading)) 23
     (unless (configOk d image reading) 24
     0)))))
@@ -42,7 +42,7 @@ unfoldable pub freshNumber : Device → (image : List ℕ) → (idWord : ℕ) �
 freshNumber d image idWord =
     unless (deviceOk d) 13
     (unless (imageOk (d .words) image) 20
-    (unless (idFits d idWord) 22
+    (unless (fits d idWord) 22
     0))
 
 unfoldable pub readBackNumber : Device → ℕ

@@ -8,7 +8,7 @@ use lib.ListN.{getD}
 use Rattle.words.specs.Choice.{pick}
 use Rattle.words.specs.LawsTests.{not-holds}
 use Rattle.device.specs.declared.Device.{Device}
-use Rattle.device.specs.Record.{deviceOk, idFits}
+use Rattle.device.specs.Record.{deviceOk, fits}
 use Rattle.device.specs.Memory.{deviceId, imageOk, readingOk, protected}
 use Rattle.plan.specs.Answers.{configOk, updateNumber, freshNumber}
 
@@ -22,7 +22,7 @@ pub record Accepted (d : Device) (image reading : List ℕ) : Type 0 where
 pub accepted : (d : Device) (image reading : List ℕ) → updateNumber d image reading ≡ 0 → Accepted d image reading
 unfolding updateNumber pick
 accepted d image reading e =
-    by (deviceOk d) refl (imageOk (d .words) image) refl (readingOk (d .words) reading) refl (idFits d (getD reading (d .words + deviceId) 0)) (not (protected (d .words) reading)) refl
+    by (deviceOk d) refl (imageOk (d .words) image) refl (readingOk (d .words) reading) refl (fits d (getD reading (d .words + deviceId) 0)) (not (protected (d .words) reading)) refl
     (configOk d image reading) refl e
   where
     by : (a : Bool) → deviceOk d ≡ a → (b : Bool) → imageOk (d .words) image ≡ b → (c : Bool) → readingOk (d .words) reading ≡ c → (o : Bool)
@@ -43,7 +43,7 @@ pub record AcceptedFresh (d : Device) (image : List ℕ) : Type 0 where
 
 pub accepted-fresh : (d : Device) (image : List ℕ) (idWord : ℕ) → freshNumber d image idWord ≡ 0 → AcceptedFresh d image
 unfolding freshNumber pick
-accepted-fresh d image idWord e = by (deviceOk d) refl (imageOk (d .words) image) refl (idFits d idWord) e
+accepted-fresh d image idWord e = by (deviceOk d) refl (imageOk (d .words) image) refl (fits d idWord) e
   where
     by : (a : Bool) → deviceOk d ≡ a → (b : Bool) → imageOk (d .words) image ≡ b → (o : Bool) → pick {A = ℕ} a (pick b (pick o 0 22) 20) 13 ≡ 0 → AcceptedFresh d image
     by false ea b eb o z = absurd (omega arith)

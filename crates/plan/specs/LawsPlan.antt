@@ -11,7 +11,7 @@ use borrow.Author.Tests.{eq-eqb, ne-eqb, le-leb, lt-leb}
 use Rattle.words.specs.Choice.{pick}
 use Rattle.words.specs.LawsChoice.{pick-true, pick-false}
 use Rattle.device.specs.declared.Device.{Device}
-use Rattle.device.specs.Record.{deviceOk, idFits, recordNumber}
+use Rattle.device.specs.Record.{deviceOk, fits, recordNumber}
 use Rattle.device.specs.Memory.{deviceId, imageOk, readingOk, protected}
 use Rattle.device.specs.LawsRecord.{Rules, ok-of-judged, rules-of-judged, bad-of-judged}
 use Rattle.target.specs.declared.Order.{Order}
@@ -97,7 +97,7 @@ module _ (d : Device) (image reading : List ℕ) (n : ℕ) (judged : n ≡ recor
       unfolding updateNumber pick
       update-21 f = rw (judged-ok d n judged z, ← is-image, image-ok, ← is-reading, f)
 
-      module _ (reading-ok : b ≡ true) (i : Bool) (id-fits : i ≡ idFits d (getD reading (d .words + deviceId) 0)) where
+      module _ (reading-ok : b ≡ true) (i : Bool) (id-fits : i ≡ fits d (getD reading (d .words + deviceId) 0)) where
         pub update-22 : i ≡ false → 22 ≡ updateNumber d image reading
         unfolding updateNumber pick
         update-22 f = rw (judged-ok d n judged z, ← is-image, image-ok, ← is-reading, reading-ok, ← id-fits, f)
@@ -141,7 +141,7 @@ module _ (d : Device) (image : List ℕ) (idWord n : ℕ) (judged : n ≡ record
     unfolding freshNumber pick
     fresh-20 f = rw (judged-ok d n judged z, ← is-image, f)
 
-    module _ (image-ok : a ≡ true) (i : Bool) (id-fits : i ≡ idFits d idWord) where
+    module _ (image-ok : a ≡ true) (i : Bool) (id-fits : i ≡ fits d idWord) where
       pub fresh-22 : i ≡ false → 22 ≡ freshNumber d image idWord
       unfolding freshNumber pick
       fresh-22 f = rw (judged-ok d n judged z, ← is-image, image-ok, ← id-fits, f)

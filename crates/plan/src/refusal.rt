@@ -42,7 +42,7 @@ pub(crate) fn update_refusal(d: Device, image: &[u16], reading: &[u16]) -> u8
         return 21;
     }
     let id = (d.words as usize) + 6;
-    if device::id_fits(d, reading[id]) {} else {
+    if device::fits(d, reading[id]) {} else {
         return 22;
     }
     if device::is_protected(d.words, reading) {
@@ -64,7 +64,7 @@ pub(crate) fn fresh_refusal(d: Device, image: &[u16], id_word: u16) -> u8
     if device::is_image(d.words, image) {} else {
         return 20;
     }
-    if device::id_fits(d, id_word) {} else {
+    if device::fits(d, id_word) {} else {
         return 22;
     }
     0

@@ -13,6 +13,7 @@ const PIC16F1459: Device = Device {
     row: 32,
     mask1: 0x3eff,
     mask2: 0x3ff3,
+    idmask: 0x3fff,
 };
 
 // Reads the file of this name and prints what came of it.

@@ -6,7 +6,7 @@ use mathlib.Core.List.{List}
 use borrow.Author.Tests.{eq-eqb}
 use Rattle.words.specs.Choice.{pick}
 use Rattle.device.specs.Memory.{readingOk}
-use Rattle.sheet.specs.Sheet.{sheetText}
+use Rattle.sheet.specs.Sheet.{sheetWith, firstLine}
 use Rattle.board.specs.Open.{recordOf, openNumber}
 use Rattle.gathers.specs.LawsAnswers.{answers-read}
 use Rattle.gathers.specs.Gather.{answerText, gatherNumber, gatherText}
@@ -17,8 +17,8 @@ module _ (table sheet : List ℕ) (z : openNumber table sheet ≡ 0) (l : List �
   unfolding gatherNumber pick
   gathers-all = rw (eq-eqb (openNumber table sheet) 0 z, answers-read (recordOf table sheet .words) l ok .0)
 
-  pub answers-gathered : gatherText table sheet (answerText l) ≡ sheetText (recordOf table sheet) l
+  pub answers-gathered : gatherText table sheet (answerText l) ≡ sheetWith (firstLine sheet .id) (recordOf table sheet) l
   unfolding gatherText
   answers-gathered =
       text-is (gatherNumber table sheet (answerText l)) 0 0 _ gathers-all
-      ∙ ap (sheetText (recordOf table sheet)) (answers-read (recordOf table sheet .words) l ok .1)
+      ∙ ap (sheetWith (firstLine sheet .id) (recordOf table sheet)) (answers-read (recordOf table sheet .words) l ok .1)

@@ -16,7 +16,7 @@ use Rattle.device.specs.declared.Device.{Device}
 use Rattle.device.specs.Record.{deviceUpTo}
 use Rattle.device.specs.Memory.{readingTail, cpWord, protected}
 use Rattle.device.specs.LawsMemory.{protected-same}
-use Rattle.sheet.specs.Sheet.{sheetText, sheetOk}
+use Rattle.sheet.specs.Sheet.{sheetWith, firstLine, sheetOk}
 use Rattle.sheet.specs.LawsSheet.{read-written}
 use Rattle.target.specs.declared.Order.the-variants.{LoadConfiguration}
 use Rattle.target.specs.declared.Registers.{Registers}
@@ -31,7 +31,7 @@ use Rattle.plan.specs.Steps.{reads, readSteps, readBackSteps}
 use Rattle.plan.specs.Demands.{readingOf}
 use Rattle.plan.specs.LawsReadBack.{at, read-back-answers}
 use Rattle.board.specs.Open.{mostProgram, recordOf, openNumber, boardNumber, boardReading}
-use Rattle.board.specs.LawsOpen.{opened-sound, served-most}
+use Rattle.board.specs.LawsOpen.{opened-sound, served-most, opened-id}
 use Rattle.board.specs.LawsBoard.{board-refused, board-found, board-served}
 use Rattle.listings.specs.Streams.{streamText, readbackText, updateText}
 use Rattle.listings.specs.Wanteds.{wantedText}
@@ -113,7 +113,7 @@ pub gathered : (table sheet : List ℕ) → isRefusal (readbackText table sheet)
     → (cells : List ℕ) → soundCells (chipOf (recordOf table sheet)) cells ≡ true → protected (recordOf table sheet .words) cells ≡ false
     → (n : ℕ) → length (streamOf (readbackText table sheet)) / 3 ≤ n → (buffer : List ℕ) → recordOf table sheet .words + readingTail ≤ length buffer
     → gatherText table sheet (wordsText (recordOf table sheet) (readbackText table sheet) cells n buffer)
-    ≡ sheetText (recordOf table sheet) (take (recordOf table sheet .words + readingTail) cells)
+    ≡ sheetWith (firstLine sheet .id) (recordOf table sheet) (take (recordOf table sheet .words + readingTail) cells)
 unfolding wordsText
 gathered table sheet printed cells sound bare n enough buffer room =
     ap (λ l. gatherText table sheet (answerText l)) (answered table sheet z cells buffer sound bare room n enough)
@@ -123,7 +123,7 @@ gathered table sheet printed cells sound bare n enough buffer room =
     z = not-refused (openNumber table sheet) 0 0 (streamText (bytesOf (readBackSteps (recordOf table sheet)))) (unfold readbackText in printed)
 
 -- a stream was played whole, be it cut before or not: if the board is not protected then, its words are gathered to just the sheet that the stream is to leave
-pub left-gathered : (table sheet : List ℕ) → isRefusal (readbackText table sheet) ≡ false → (stream cells left : List ℕ) → Leaves (recordOf table sheet) stream cells left
+pub left-gathered : (table sheet : List ℕ) → isRefusal (readbackText table sheet) ≡ false → (stream cells left : List ℕ) → Leaves (firstLine sheet .id) (recordOf table sheet) stream cells left
     → (c : List ℕ) → CutRuns (modelOf (recordOf table sheet)) (streamOf stream) cells c → (n : ℕ) → length (streamOf stream) / 3 ≤ n → (words : List ℕ)
     → protected (recordOf table sheet .words) (cellsLeft (recordOf table sheet) stream c n words) ≡ false
     → (m : ℕ) → length (streamOf (readbackText table sheet)) / 3 ≤ m → (buffer : List ℕ) → recordOf table sheet .words + readingTail ≤ length buffer
@@ -151,9 +151,9 @@ module _ (table sheet : List ℕ) (z : boardNumber table sheet ≡ 0) where
   abbrev reading : List ℕ
   reading = boardReading table sheet
 
-  sheet-again : sheetText (recordOf table sheet) (take (recordOf table sheet .words + readingTail) (cellsOf reading)) ≡ sheet
+  sheet-again : sheetWith (firstLine sheet .id) (recordOf table sheet) (take (recordOf table sheet .words + readingTail) (cellsOf reading)) ≡ sheet
   sheet-again =
-      ap (sheetText (recordOf table sheet)) (first-front table sheet z)
+      (λ i. sheetWith (opened-id table sheet opens i) (recordOf table sheet) (first-front table sheet z i))
       ∙ (unfold boardReading in read-written (recordOf table sheet) sheet sheet-sound)
 
   -- what readback prints, played on the cells that trial makes of this sheet, is gathered to this very sheet, unless the board is protected

@@ -11,7 +11,8 @@ use Rattle.words.specs.LawsChoice.{pick-true}
 use Rattle.device.specs.declared.Device.{Device}
 use Rattle.device.specs.Memory.{readingTail, deviceId, programmable}
 use Rattle.device.specs.LawsMemory.{reading-each}
-use Rattle.sheet.specs.Sheet.{sheetText}
+use Rattle.sheet.specs.Sheet.{sheetWith, firstLine}
+use Rattle.sheet.specs.LawsRead.{id-small}
 use Rattle.target.specs.declared.Order.{Order}
 use Rattle.target.specs.Chip.{chipOf}
 use Rattle.target.specs.Step.{soundCells}
@@ -29,7 +30,7 @@ use Rattle.plan.specs.LawsAccepted.{Accepted, accepted, AcceptedFresh, accepted
 use Rattle.plan.specs.LawsUpdate.{update-recovers}
 use Rattle.plan.specs.LawsFresh.{fresh-recovers}
 use Rattle.board.specs.Open.{recordOf, boardNumber, boardReading}
-use Rattle.board.specs.LawsBoard.{board-sound, board-served}
+use Rattle.board.specs.LawsBoard.{board-served}
 use Rattle.listings.specs.Streams.{streamText, hexOf, planText, updateText, freshText}
 use Rattle.listings.specs.Wanteds.{leftText, wantedText, wantedFreshText}
 use Rattle.listings.specs.LawsPlans.{update-few, fresh-few}
@@ -42,23 +43,23 @@ use Rattle.rehearsed.specs.LawsFront.{front-word, programmed-sound, prog
 -- ---- a printed stream on a board
 
 -- it leaves what its orders leave
-printed-leaves : (d : Device) (s : List Order) → FitsAll s → (cells last sheet : List ℕ) → soundCells (chipOf d) last ≡ true → Cut.Recovers (modelOf d) (bytesOf s) cells last
-    → sheetText d (take (d .words + readingTail) last) ≡ sheet → Leaves d (streamText (bytesOf s)) cells sheet
-printed-leaves d s f cells last sheet sound r e =
+printed-leaves : (id : ℕ) (d : Device) (s : List Order) → FitsAll s → (cells last sheet : List ℕ) → soundCells (chipOf d) last ≡ true → Cut.Recovers (modelOf d) (bytesOf s) cells last
+    → sheetWith id d (take (d .words + readingTail) last) ≡ sheet → Leaves id d (streamText (bytesOf s)) cells sheet
+printed-leaves id d s f cells last sheet sound r e =
     record { last = last; last-sound = sound; recovers = subst (λ b. Cut.Recovers (modelOf d) b cells last) (sym (printed-read s f)) r; sheet-is = e }
 
 -- and trial prints that sheet, if it is no longer than what trial plays
 trial-leaves : (table sheet : List ℕ) → boardNumber table sheet ≡ 0 → (text : List ℕ) → badLine text ≡ 0 → length (streamOf text) / 3 ≤ mostSteps
-    → (left : List ℕ) → Leaves (recordOf table sheet) text (cellsOf (boardReading table sheet)) left → trialText table sheet text ≡ left
+    → (left : List ℕ) → Leaves (firstLine sheet .id) (recordOf table sheet) text (cellsOf (boardReading table sheet)) left → trialText table sheet text ≡ left
 unfolding trialText playedText played ran
 trial-leaves table sheet z text sound few left l =
     let w = l .recovers .recovers (replicate mostSteps 0) (cellsOf (boardReading table sheet)) Cut.none mostSteps few in
     pick-true (eqb (boardNumber table sheet) 0) _ _ (eq-eqb (boardNumber table sheet) 0 z)
     ∙ (pick-true (eqb (badLine text) 0) _ _ (eq-eqb (badLine text) 0 sound)
-    ∙ (pick-true _ _ _ (eq-eqb _ 0 (w .0)) ∙ (ap (λ c. sheetText (recordOf table sheet) (take (recordOf table sheet .words + readingTail) c)) (w .2) ∙ l .sheet-is)))
+    ∙ (pick-true _ _ _ (eq-eqb _ 0 (w .0)) ∙ (ap (λ c. sheetWith (firstLine sheet .id) (recordOf table sheet) (take (recordOf table sheet .words + readingTail) c)) (w .2) ∙ l .sheet-is)))
 
 trial-printed : (table sheet : List ℕ) → boardNumber table sheet ≡ 0 → (s : List Order) → FitsAll s → 3 * length s ≤ 55362
-    → (left : List ℕ) → Leaves (recordOf table sheet) (streamText (bytesOf s)) (cellsOf (boardReading table sheet)) left → trialText table sheet (streamText (bytesOf s)) ≡ left
+    → (left : List ℕ) → Leaves (firstLine sheet .id) (recordOf table sheet) (streamText (bytesOf s)) (cellsOf (boardReading table sheet)) left → trialText table sheet (streamText (bytesOf s)) ≡ left
 trial-printed table sheet z s f few left l = trial-leaves table sheet z (streamText (bytesOf s)) (printed-sound s f (omega arith)) short left l
   where
     short : length (streamOf (streamText (bytesOf s))) / 3 ≤ mostSteps
@@ -100,6 +101,9 @@ module _ (table sheet hex : List ℕ) where
   abbrev d : Device
   d = recordOf table sheet
 
+  abbrev line1 : ℕ
+  line1 = firstLine sheet .id
+
   abbrev reading : List ℕ
   reading = boardReading table sheet
 
@@ -123,7 +127,7 @@ module _ (table sheet hex : List ℕ) where
   unfolding updateText planText judged
   update-is = refl
 
-  wanted-is : wantedText table sheet hex ≡ told updates (sheetText d (programmed d image reading reading))
+  wanted-is : wantedText table sheet hex ≡ told updates (sheetWith line1 d (programmed d image reading reading))
   unfolding wantedText leftText judged
   wanted-is = refl
 
@@ -131,7 +135,7 @@ module _ (table sheet hex : List ℕ) where
   unfolding freshText planText judged
   fresh-is = refl
 
-  wanted-fresh-is : wantedFreshText table sheet hex ≡ told freshes (sheetText d (programmed d image [] reading))
+  wanted-fresh-is : wantedFreshText table sheet hex ≡ told freshes (sheetWith line1 d (programmed d image [] reading))
   unfolding wantedFreshText leftText judged
   wanted-fresh-is = refl
 
@@ -151,32 +155,32 @@ module _ (table sheet hex : List ℕ) where
     update-stream : updateText table sheet hex ≡ streamText (bytesOf (updateSteps d image reading))
     update-stream = update-is ∙ judged-text _ _ _ _ _ _ u
 
-    wanted-sheet : wantedText table sheet hex ≡ sheetText d (programmed d image reading reading)
+    wanted-sheet : wantedText table sheet hex ≡ sheetWith line1 d (programmed d image reading reading)
     wanted-sheet = wanted-is ∙ judged-text _ _ _ _ _ _ u
 
     update-left : (cells : List ℕ) → soundCells (chipOf d) cells ≡ true → take (d .words + readingTail) cells ≡ reading
-        → Leaves d (streamText (bytesOf (updateSteps d image reading))) cells (wantedText table sheet hex)
+        → Leaves line1 d (streamText (bytesOf (updateSteps d image reading))) cells (wantedText table sheet hex)
     update-left cells sound true-of =
         let a : Accepted d image reading = accepted d image reading (u .plan-is) in
         let held : (i : ℕ) → i < d .words + readingTail → getD cells i 0 ≡ getD reading i 0 = λ i h. sym (front-word d cells sound i h) ∙ ap (λ l. getD l i 0) true-of in
-        printed-leaves d (updateSteps d image reading) (update-fits d image reading a) cells (programmed d image reading cells) (wantedText table sheet hex)
+        printed-leaves line1 d (updateSteps d image reading) (update-fits d image reading a) cells (programmed d image reading cells) (wantedText table sheet hex)
         (programmed-sound d cells sound image reading (update-word d image reading a)) (update-recovers d image reading cells (u .plan-is) sound held)
-        (ap (sheetText d) (programmed-front d cells sound reading (a .reading-sound) (λ i h p. held i h) image reading) ∙ sym wanted-sheet)
+        (ap (sheetWith line1 d) (programmed-front d cells sound reading (a .reading-sound) (λ i h p. held i h) image reading) ∙ sym wanted-sheet)
 
   module _ (u : Good freshes) where
     fresh-stream : freshText table sheet hex ≡ streamText (bytesOf (freshSteps d image))
     fresh-stream = fresh-is ∙ judged-text _ _ _ _ _ _ u
 
-    wanted-fresh-sheet : wantedFreshText table sheet hex ≡ sheetText d (programmed d image [] reading)
+    wanted-fresh-sheet : wantedFreshText table sheet hex ≡ sheetWith line1 d (programmed d image [] reading)
     wanted-fresh-sheet = wanted-fresh-is ∙ judged-text _ _ _ _ _ _ u
 
     fresh-left : (cells : List ℕ) → soundCells (chipOf d) cells ≡ true → ((i : ℕ) → i < d .words + readingTail → programmable (d .words) i ≡ false → getD cells i 0 ≡ getD reading i 0)
-        → Leaves d (streamText (bytesOf (freshSteps d image))) cells (wantedFreshText table sheet hex)
+        → Leaves line1 d (streamText (bytesOf (freshSteps d image))) cells (wantedFreshText table sheet hex)
     fresh-left cells sound held =
         let a : AcceptedFresh d image = accepted-fresh d image (getD reading (d .words + deviceId) 0) (u .plan-is) in
-        printed-leaves d (freshSteps d image) (fresh-fits d image a) cells (programmed d image [] cells) (wantedFreshText table sheet hex)
+        printed-leaves line1 d (freshSteps d image) (fresh-fits d image a) cells (programmed d image [] cells) (wantedFreshText table sheet hex)
         (programmed-sound d cells sound image [] (fresh-word d image a)) (fresh-recovers d image (getD reading (d .words + deviceId) 0) cells (u .plan-is) sound)
-        (ap (sheetText d) (programmed-front d cells sound reading (reading-sound table sheet (u .board-is)) held image []) ∙ sym wanted-fresh-sheet)
+        (ap (sheetWith line1 d) (programmed-front d cells sound reading (reading-sound table sheet (u .board-is)) held image []) ∙ sym wanted-fresh-sheet)
 
 -- ---- the theorems
 
@@ -216,9 +220,9 @@ rehearsed-fresh table sheet hex printed =
 -- on a board of which the sheet was true, the text that update prints leaves the sheet that wanted prints, wherever and however often it is cut
 pub update-leaves : (table sheet hex : List ℕ) → isRefusal (updateText table sheet hex) ≡ false
     → (cells : List ℕ) → soundCells (chipOf (recordOf table sheet)) cells ≡ true → take (recordOf table sheet .words + readingTail) cells ≡ boardReading table sheet
-    → Leaves (recordOf table sheet) (updateText table sheet hex) cells (wantedText table sheet hex)
+    → Leaves (firstLine sheet .id) (recordOf table sheet) (updateText table sheet hex) cells (wantedText table sheet hex)
 update-leaves table sheet hex printed cells sound true-of =
-    subst (λ t. Leaves (recordOf table sheet) t cells (wantedText table sheet hex)) (sym (update-stream table sheet hex u)) (update-left table sheet hex u cells sound true-of)
+    subst (λ t. Leaves (firstLine sheet .id) (recordOf table sheet) t cells (wantedText table sheet hex)) (sym (update-stream table sheet hex u)) (update-left table sheet hex u cells sound true-of)
   where
     u : Good table sheet hex (updates table sheet hex)
     u = update-good table sheet hex printed
@@ -227,9 +231,9 @@ update-leaves table sheet hex printed cells sound true-of =
 pub fresh-leaves : (table sheet hex : List ℕ) → isRefusal (freshText table sheet hex) ≡ false
     → (cells : List ℕ) → soundCells (chipOf (recordOf table sheet)) cells ≡ true
     → ((i : ℕ) → i < recordOf table sheet .words + readingTail → programmable (recordOf table sheet .words) i ≡ false → getD cells i 0 ≡ getD (boardReading table sheet) i 0)
-    → Leaves (recordOf table sheet) (freshText table sheet hex) cells (wantedFreshText table sheet hex)
+    → Leaves (firstLine sheet .id) (recordOf table sheet) (freshText table sheet hex) cells (wantedFreshText table sheet hex)
 fresh-leaves table sheet hex printed cells sound held =
-    subst (λ t. Leaves (recordOf table sheet) t cells (wantedFreshText table sheet hex)) (sym (fresh-stream table sheet hex u)) (fresh-left table sheet hex u cells sound held)
+    subst (λ t. Leaves (firstLine sheet .id) (recordOf table sheet) t cells (wantedFreshText table sheet hex)) (sym (fresh-stream table sheet hex u)) (fresh-left table sheet hex u cells sound held)
   where
     u : Good table sheet hex (freshes table sheet hex)
     u = fresh-good table sheet hex printed
@@ -244,8 +248,8 @@ module _ (table sheet hex : List ℕ) where
       ∙ (judged-alike (boardNumber table sheet) (hexOf table sheet hex .number) (hexOf table sheet hex .line) (hexOf table sheet hex .column) plan text other own (ap isRefusal (sym p) ∙ e)
       ∙ sym p)
 
-  left : (plan : ℕ) (words : List ℕ) → Good table sheet hex plan → isRefusal (sheetText (recordOf table sheet) words) ≡ false
-  left plan words u = sheet-told (recordOf table sheet) (board-sound table sheet (u .board-is)) words
+  left : (plan : ℕ) (words : List ℕ) → Good table sheet hex plan → isRefusal (sheetWith (firstLine sheet .id) (recordOf table sheet) words) ≡ false
+  left plan words u = sheet-told (firstLine sheet .id) (recordOf table sheet) (id-small sheet) words
 
   pub refused-alike : isRefusal (updateText table sheet hex) ≡ true → wantedText table sheet hex ≡ updateText table sheet hex
   refused-alike e =

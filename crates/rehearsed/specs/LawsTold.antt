@@ -12,9 +12,7 @@ use Rattle.words.specs.LawsChoice.{pick-true, pick-false, true-not-false}
 use Rattle.numerals.specs.Hex.{digitText, byteText, wordText}
 use Rattle.numerals.specs.LawsHex.{digit-text-low, digit-text-high}
 use Rattle.device.specs.declared.Device.{Device}
-use Rattle.device.specs.Record.{deviceOk}
-use Rattle.device.specs.LawsRecord.{rules}
-use Rattle.sheet.specs.Sheet.{sheetText}
+use Rattle.sheet.specs.Sheet.{sheetWith}
 use Rattle.target.specs.declared.Order.{Order}
 use Rattle.target.specs.declared.Order.the-variants.{LoadConfiguration, LoadData, Read, Increment, ResetAddress, Begin, BulkErase, RowErase}
 use Rattle.target.specs.Stream.{codeOf, stepBytes, bytesOf}
@@ -54,9 +52,9 @@ digit-told n h = ne-eqb (digitText n) 0x72 (λ e. by e (decLt n 10))
     by e (yes p) = let t : digitText n ≡ 0x30 + n = digit-text-low n p in omega arith
     by e (no p) = let t : digitText n ≡ 0x41 + (n - 10) = digit-text-high n (omega arith) in omega arith
 
-pub sheet-told : (d : Device) → deviceOk d ≡ true → (reading : List ℕ) → isRefusal (sheetText d reading) ≡ false
-unfolding isRefusal sheetText wordText byteText
-sheet-told d sound reading = let small : d .id < 0x4000 = rules d sound .id-word in digit-told (d .id / 256 / 16) (omega arith)
+pub sheet-told : (id : ℕ) (d : Device) → id < 0x4000 → (reading : List ℕ) → isRefusal (sheetWith id d reading) ≡ false
+unfolding isRefusal sheetWith wordText byteText
+sheet-told id d small reading = digit-told (id / 256 / 16) (omega arith)
 
 -- ---- a text, or a refusal
 

@@ -7,7 +7,7 @@ use lib.Dec.{eqb}
 use lib.ListN.{getD, take}
 use Rattle.device.specs.declared.Device.{Device}
 use Rattle.device.specs.Memory.{readingTail}
-use Rattle.sheet.specs.Sheet.{sheetText}
+use Rattle.sheet.specs.Sheet.{sheetWith}
 use Rattle.target.specs.Chip.{chipOf}
 use Rattle.target.specs.Model.{Run}
 use Rattle.target.specs.Step.{Target, soundCells}
@@ -20,12 +20,12 @@ use Rattle.gathers.specs.Gather.{answerText}
 unfoldable pub isRefusal : (text : List ℕ) → Bool
 isRefusal text = eqb (getD text 0 0) 0x72
 
--- on a board with these cells, a whole run of the printed stream leaves cells whose sheet is this text, whatever cut runs of it came before
-pub record Leaves (d : Device) (stream cells sheet : List ℕ) : Type 0 where
+-- on a board with these cells, a whole run of the printed stream leaves cells whose sheet with this ID on line 1 is this text, whatever cut runs of it came before
+pub record Leaves (id : ℕ) (d : Device) (stream cells sheet : List ℕ) : Type 0 where
   pub last : List ℕ
   pub last-sound : soundCells (chipOf d) last ≡ true
   pub recovers : Recovers (modelOf d) (streamOf stream) cells last
-  pub sheet-is : sheetText d (take (d .words + readingTail) last) ≡ sheet
+  pub sheet-is : sheetWith id d (take (d .words + readingTail) last) ≡ sheet
 
 -- the cells that a run of a printed stream leaves, where it may take so many steps and has this buffer for words read
 unfoldable pub cellsLeft : Device → (stream cells : List ℕ) → (steps : ℕ) → (buffer : List ℕ) → List ℕ

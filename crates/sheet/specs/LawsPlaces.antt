@@ -17,12 +17,13 @@ use Rattle.words.specs.LawsChoice.{both, first-holds, second-holds, same-test}
 use Rattle.words.specs.LawsLists.{every-at, every-all}
 use Rattle.words.specs.LawsWord.{is-word, word-lt, words-each, words-of}
 use Rattle.device.specs.declared.Device.{Device}
-use Rattle.device.specs.Record.{deviceOk}
+use Rattle.device.specs.Record.{deviceOk, fits}
 use Rattle.device.specs.Memory.{readingTail, readingOk}
 use Rattle.device.specs.LawsRecord.{Rules, rules, words-eighths}
-use Rattle.sheet.specs.Sheet.{sheetText, sheetLength, wordsIn, sameText, sheetOk}
+use Rattle.device.specs.LawsId.{fits-word}
+use Rattle.sheet.specs.Sheet.{sheetWith, sheetLength, idIn, wordsIn, sameText, sheetOk}
 use Rattle.sheet.specs.LawsStands.{stands-self, stands-whole, stands-word, word-stands}
-use Rattle.sheet.specs.LawsSheet.{Line, Parts, parts-stand, stand-parts, length-sheet, digits-program, digits-last, length-words, word-in, same-self, read-sound, read-written}
+use Rattle.sheet.specs.LawsSheet.{Line, Parts, parts-stand, stand-parts, length-with, digits-program, digits-last, length-words, word-in, same-self, read-fits, read-sound, read-written}
 
 -- ---- the tests, in the order of the text
 
@@ -44,13 +45,13 @@ unfoldable pub linesOk : (text : List ℕ) (lines : ℕ) → Bool
 linesOk text lines = every lines (λ k. sheetLineOk text (5 + 45 * k) (8 * k) 8)
 
 -- the length, line 1, the program lines, the last line
-unfoldable pub placesOk : (id words : ℕ) (text : List ℕ) → Bool
-placesOk id words text =
-    eqb (length text) (5 + 45 * (words / 8) + 50)
-    && eqb (wordBy capitalOf text 0) id
+unfoldable pub placesOk : Device → (text : List ℕ) → Bool
+placesOk d text =
+    eqb (length text) (5 + 45 * (d .words / 8) + 50)
+    && fits d (idIn text)
     && eqb (getD text 4 0) lf
-    && linesOk text (words / 8)
-    && sheetLineOk text (5 + 45 * (words / 8)) configBase readingTail
+    && linesOk text (d .words / 8)
+    && sheetLineOk text (5 + 45 * (d .words / 8)) configBase readingTail
 
 -- ---- a line's tests and its parts
 
@@ -105,11 +106,11 @@ module _ (t : List ℕ) (at address count : ℕ) where
         every-all count (λ k. fieldOk t (at + 4 + 5 * k)) (λ k h. is-field t (at + 4 + 5 * k) (p .field-here k h)),
       )
 
-  module _ (i : ℕ) (l : List ℕ) (fits : address < 65536) where
+  module _ (i : ℕ) (l : List ℕ) (below : address < 65536) where
     pub parts-of-line : LineIs t at address count → ((k : ℕ) → k < count → wordBy capitalOf t (at + 4 + 5 * k + 1) ≡ getD l (i + k) 0) → Line at address count i l t
     parts-of-line p words =
         record {
-          address-here = stands-word t at address (p .address-is) fits;
+          address-here = stands-word t at address (p .address-is) below;
           tab-here = λ k h. p .field-here k h .tab-here;
           word-here = λ k h.
               stands-word t (at + 4 + 5 * k + 1) (getD l (i + k) 0) (words k h)
@@ -122,7 +123,7 @@ module _ (t : List ℕ) (at address count : ℕ) where
     pub line-of-parts : Line at address count i l t → ((k : ℕ) → getD l k 0 < 0x4000) → LineIs t at address count
     line-of-parts p small =
         record {
-          address-is = word-stands t at address (p .address-here) fits;
+          address-is = word-stands t at address (p .address-here) below;
           field-here = λ k h. record {
             tab-here = p .tab-here k h;
             word-small =
@@ -136,42 +137,42 @@ module _ (t : List ℕ) (at address count : ℕ) where
 -- ---- the sheet's tests and the test of the sheet
 
 -- what the tests tell
-pub record Places (id words : ℕ) (text : List ℕ) : Type 0 where
-  pub long : length text ≡ 5 + 45 * (words / 8) + 50
-  pub id-is : wordBy capitalOf text 0 ≡ id
+pub record Places (d : Device) (text : List ℕ) : Type 0 where
+  pub long : length text ≡ 5 + 45 * (d .words / 8) + 50
+  pub id-fits : fits d (idIn text) ≡ true
   pub end-here : getD text 4 0 ≡ lf
-  pub line-here : (k : ℕ) → k < words / 8 → LineIs text (5 + 45 * k) (8 * k) 8
-  pub last-here : LineIs text (5 + 45 * (words / 8)) configBase readingTail
+  pub line-here : (k : ℕ) → k < d .words / 8 → LineIs text (5 + 45 * k) (8 * k) 8
+  pub last-here : LineIs text (5 + 45 * (d .words / 8)) configBase readingTail
 
-module _ (id words : ℕ) (t : List ℕ) where
-  pub places : placesOk id words t ≡ true → Places id words t
+module _ (d : Device) (t : List ℕ) where
+  pub places : placesOk d t ≡ true → Places d t
   unfolding placesOk linesOk
   places e =
-      let one : Bool = eqb (length t) (5 + 45 * (words / 8) + 50) in
-      let two : Bool = one && eqb (wordBy capitalOf t 0) id in
+      let one : Bool = eqb (length t) (5 + 45 * (d .words / 8) + 50) in
+      let two : Bool = one && fits d (idIn t) in
       let three : Bool = two && eqb (getD t 4 0) lf in
-      let four : Bool = three && linesOk t (words / 8) in
-      let last : Bool = sheetLineOk t (5 + 45 * (words / 8)) configBase readingTail in
+      let four : Bool = three && linesOk t (d .words / 8) in
+      let last : Bool = sheetLineOk t (5 + 45 * (d .words / 8)) configBase readingTail in
       let e4 : four ≡ true = first-holds four last e in
-      let e3 : three ≡ true = first-holds three (linesOk t (words / 8)) e4 in
+      let e3 : three ≡ true = first-holds three (linesOk t (d .words / 8)) e4 in
       let e2 : two ≡ true = first-holds two (eqb (getD t 4 0) lf) e3 in
       record {
-        long = eqb-true (length t) (5 + 45 * (words / 8) + 50) (first-holds one (eqb (wordBy capitalOf t 0) id) e2);
-        id-is = eqb-true (wordBy capitalOf t 0) id (second-holds one (eqb (wordBy capitalOf t 0) id) e2);
+        long = eqb-true (length t) (5 + 45 * (d .words / 8) + 50) (first-holds one (fits d (idIn t)) e2);
+        id-fits = second-holds one (fits d (idIn t)) e2;
         end-here = eqb-true (getD t 4 0) lf (second-holds two (eqb (getD t 4 0) lf) e3);
-        line-here = λ k h. line-is t (5 + 45 * k) (8 * k) 8 (every-at (words / 8) (λ j. sheetLineOk t (5 + 45 * j) (8 * j) 8) (second-holds three (linesOk t (words / 8)) e4) k h);
-        last-here = line-is t (5 + 45 * (words / 8)) configBase readingTail (second-holds four last e);
+        line-here = λ k h. line-is t (5 + 45 * k) (8 * k) 8 (every-at (d .words / 8) (λ j. sheetLineOk t (5 + 45 * j) (8 * j) 8) (second-holds three (linesOk t (d .words / 8)) e4) k h);
+        last-here = line-is t (5 + 45 * (d .words / 8)) configBase readingTail (second-holds four last e);
       }
 
-  pub of-places : Places id words t → placesOk id words t ≡ true
+  pub of-places : Places d t → placesOk d t ≡ true
   unfolding placesOk linesOk
   of-places p =
       rw (
-        eq-eqb (length t) (5 + 45 * (words / 8) + 50) (p .long),
-        eq-eqb (wordBy capitalOf t 0) id (p .id-is),
+        eq-eqb (length t) (5 + 45 * (d .words / 8) + 50) (p .long),
+        p .id-fits,
         eq-eqb (getD t 4 0) lf (p .end-here),
-        every-all (words / 8) (λ k. sheetLineOk t (5 + 45 * k) (8 * k) 8) (λ k h. is-line t (5 + 45 * k) (8 * k) 8 (p .line-here k h)),
-        is-line t (5 + 45 * (words / 8)) configBase readingTail (p .last-here),
+        every-all (d .words / 8) (λ k. sheetLineOk t (5 + 45 * k) (8 * k) 8) (λ k h. is-line t (5 + 45 * k) (8 * k) 8 (p .line-here k h)),
+        is-line t (5 + 45 * (d .words / 8)) configBase readingTail (p .last-here),
       )
 
 module _ (d : Device) (sound : deviceOk d ≡ true) (t : List ℕ) where
@@ -196,7 +197,7 @@ module _ (d : Device) (sound : deviceOk d ≡ true) (t : List ℕ) where
   last-word k h = sym (word-in (d .words) t (d .words + k) (omega arith) ∙ ap (wordBy capitalOf t) (digits-last (d .words) k))
 
   -- each word of a text that passes the tests
-  small : Places (d .id) (d .words) t → (i : ℕ) → i < d .words + readingTail → Dec (i < d .words) → getD read i 0 < 0x4000
+  small : Places d t → (i : ℕ) → i < d .words + readingTail → Dec (i < d .words) → getD read i 0 < 0x4000
   small p i h (yes q) =
       let e : d .words % 8 ≡ 0 = eighths in
       let whole : 8 * (i / 8) + i % 8 ≡ i = omega arith in
@@ -210,41 +211,40 @@ module _ (d : Device) (sound : deviceOk d ≡ true) (t : List ℕ) where
       rw (ap (λ n. getD read n 0) whole) at
       (rw (last-word (i - d .words) column) at (p .last-here .field-here (i - d .words) column .word-small))
 
-  passes : Places (d .id) (d .words) t → sheetOk d t ≡ true
+  passes : Places d t → sheetOk d t ≡ true
   unfolding sheetOk readingOk read
   passes p =
       let r : Rules d = kept in
       let e : d .words % 8 ≡ 0 = eighths in
-      let parts : Parts d read t = record {
-        id-here = stands-word t 0 (d .id) (p .id-is) (omega arith);
+      let word : idIn t < 0x4000 = fits-word d (idIn t) (p .id-fits) in
+      let parts : Parts (idIn t) d read t = record {
+        id-here = stands-word t 0 (idIn t) refl (omega arith);
         end-here = p .end-here;
         line-here = λ k h. parts-of-line t (5 + 45 * k) (8 * k) 8 (8 * k) read (omega arith) (p .line-here k h) (λ j q. program-word k j h q);
         last-here = parts-of-line t (5 + 45 * (d .words / 8)) configBase readingTail (d .words) read (omega arith) (p .last-here) last-word;
       } in
-      let long : length t ≡ length (sheetText d read) = p .long ∙ sym (length-sheet d read ∙ (unfold sheetLength in refl)) in
-      let same : t ≡ sheetText d read = stands-whole (sheetText d read) t (stand-parts d read t parts) long in
-      both (readingOk (d .words) read) (sameText t (sheetText d read))
-      (words-of (d .words + readingTail) read (length-words (d .words) t) (λ i h. small p i h (decLt i (d .words))))
+      let long : length t ≡ length (sheetWith (idIn t) d read) = p .long ∙ sym (length-with (idIn t) d read ∙ (unfold sheetLength in refl)) in
+      let same : t ≡ sheetWith (idIn t) d read = stands-whole (sheetWith (idIn t) d read) t (stand-parts (idIn t) d read t parts) long in
+      both (fits d (idIn t) && readingOk (d .words) read) (sameText t (sheetWith (idIn t) d read))
+      (both (fits d (idIn t)) (readingOk (d .words) read) (p .id-fits)
+      (words-of (d .words + readingTail) read (length-words (d .words) t) (λ i h. small p i h (decLt i (d .words)))))
       (ap (sameText t) (sym same) ∙ same-self t)
 
-  stands : sheetOk d t ≡ true → Places (d .id) (d .words) t
+  stands : sheetOk d t ≡ true → Places d t
   unfolding readingOk read
   stands ok =
       let r : Rules d = kept in
       let each : (i : ℕ) → getD read i 0 < 0x4000 = words-each (d .words + readingTail) read (read-sound d t ok) in
-      let same : sheetText d read ≡ t = read-written d t ok in
-      let parts : Parts d read t = parts-stand d read t (rw same (stands-self t)) in
+      let same : sheetWith (idIn t) d read ≡ t = read-written d t ok in
+      let parts : Parts (idIn t) d read t = parts-stand (idIn t) d read t (rw same (stands-self t)) in
       record {
-        long = ap length (sym same) ∙ (length-sheet d read ∙ (unfold sheetLength in refl));
-        id-is = word-stands t 0 (d .id) (parts .id-here) (omega arith);
+        long = ap length (sym same) ∙ (length-with (idIn t) d read ∙ (unfold sheetLength in refl));
+        id-fits = read-fits d t ok;
         end-here = parts .end-here;
         line-here = λ k h. line-of-parts t (5 + 45 * k) (8 * k) 8 (8 * k) read (omega arith) (parts .line-here k h) each;
         last-here = line-of-parts t (5 + 45 * (d .words / 8)) configBase readingTail (d .words) read (omega arith) (parts .last-here) each;
       }
 
   -- the tests, place by place, are the test of the sheet
-  pub places-sheet : placesOk (d .id) (d .words) t ≡ sheetOk d t
-  places-sheet =
-      same-test (placesOk (d .id) (d .words) t) (sheetOk d t)
-      (λ e. passes (places (d .id) (d .words) t e))
-      (λ e. of-places (d .id) (d .words) t (stands e))
+  pub places-sheet : placesOk d t ≡ sheetOk d t
+  places-sheet = same-test (placesOk d t) (sheetOk d t) (λ e. passes (places d t e)) (λ e. of-places d t (stands e))

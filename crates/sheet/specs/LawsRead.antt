@@ -2,8 +2,8 @@
 use Prim.Native.Nat.{ℕ, _+_, _-_, _*_, _/_, _%_, _≤_, _<_}
 use native.Mathlib.Nat.{le-antisymm, zero-add}
 use native.Mathlib.Omega.{arith}
-use mathlib.Core.Path.{_≡_, sym, ap, _∙_}
-use mathlib.Core.Bool.{true, false}
+use mathlib.Core.Path.{_≡_, refl, sym, ap, _∙_}
+use mathlib.Core.Bool.{Bool, true, false, _&&_}
 use mathlib.Core.List.{List}
 use lib.Dec.{eqb, ltb}
 use lib.ListN.{length, getD, set}
@@ -14,13 +14,15 @@ use Rattle.words.specs.Lists.{overlay}
 use Rattle.numerals.specs.Text.{tab, lf}
 use Rattle.numerals.specs.Hex.{capitalOf, wordBy}
 use Rattle.words.specs.Address.{configBase}
-use Rattle.words.specs.LawsChoice.{pick-true, pick-false, first-fails}
+use Rattle.words.specs.LawsChoice.{pick-true, pick-false, first-holds, first-fails}
 use Rattle.words.specs.LawsLists.{every-none, every-more, every-no, getD-past, same-entries, length-overlay, overlay-inside, overlay-none, overlay-more}
-use Rattle.words.specs.LawsWord.{is-word, not-word, words-each}
+use Rattle.words.specs.LawsWord.{is-word, not-word, word-lt, words-each}
 use Rattle.device.specs.declared.Device.{Device}
-use Rattle.device.specs.Record.{deviceOk}
+use Rattle.device.specs.Record.{deviceOk, fits}
+use Rattle.device.specs.LawsId.{fits-high}
 use Rattle.device.specs.Memory.{readingTail, readingOk}
-use Rattle.sheet.specs.Sheet.{digitsAt, wordsIn, sheetOk, readNumber, readBuffer, firstLine}
+use Rattle.sheet.specs.declared.Line1.{Line1}
+use Rattle.sheet.specs.Sheet.{idIn, digitsAt, wordsIn, sheetOk, readNumber, readBuffer, firstLine}
 use Rattle.sheet.specs.LawsSheet.{length-words, word-in}
 use Rattle.sheet.specs.LawsPlaces.{fieldOk, fieldsOk, sheetLineOk, linesOk, placesOk}
 
@@ -53,29 +55,32 @@ module _ (t : List ℕ) (at address count : ℕ) where
     unfolding sheetLineOk
     line-end f = rw (eq-eqb (wordBy capitalOf t at) address e, f)
 
-module _ (id words : ℕ) (t : List ℕ) where
-  pub places-long : (length t ≡ 5 + 45 * (words / 8) + 50 → ⊥) → false ≡ placesOk id words t
+module _ (d : Device) (t : List ℕ) where
+  pub id-high : 0x4000 ≤ idIn t → false ≡ fits d (idIn t)
+  id-high h = sym (fits-high d (idIn t) h)
+
+  pub places-long : (length t ≡ 5 + 45 * (d .words / 8) + 50 → ⊥) → false ≡ placesOk d t
   unfolding placesOk
-  places-long n = rw (ne-eqb (length t) (5 + 45 * (words / 8) + 50) n)
+  places-long n = rw (ne-eqb (length t) (5 + 45 * (d .words / 8) + 50) n)
 
-  module _ (long : length t ≡ 5 + 45 * (words / 8) + 50) where
-    pub places-id : (wordBy capitalOf t 0 ≡ id → ⊥) → false ≡ placesOk id words t
+  module _ (long : length t ≡ 5 + 45 * (d .words / 8) + 50) where
+    pub places-id : fits d (idIn t) ≡ false → false ≡ placesOk d t
     unfolding placesOk
-    places-id n = rw (eq-eqb (length t) (5 + 45 * (words / 8) + 50) long, ne-eqb (wordBy capitalOf t 0) id n)
+    places-id f = rw (eq-eqb (length t) (5 + 45 * (d .words / 8) + 50) long, f)
 
-    module _ (same : wordBy capitalOf t 0 ≡ id) where
-      pub places-no-end : eqb (getD t 4 0) lf ≡ false → false ≡ placesOk id words t
+    module _ (good : fits d (idIn t) ≡ true) where
+      pub places-no-end : eqb (getD t 4 0) lf ≡ false → false ≡ placesOk d t
       unfolding placesOk
-      places-no-end f = rw (eq-eqb (length t) (5 + 45 * (words / 8) + 50) long, eq-eqb (wordBy capitalOf t 0) id same, f)
+      places-no-end f = rw (eq-eqb (length t) (5 + 45 * (d .words / 8) + 50) long, good, f)
 
       module _ (ends : eqb (getD t 4 0) lf ≡ true) where
-        pub places-no-lines : linesOk t (words / 8) ≡ false → false ≡ placesOk id words t
+        pub places-no-lines : linesOk t (d .words / 8) ≡ false → false ≡ placesOk d t
         unfolding placesOk
-        places-no-lines f = rw (eq-eqb (length t) (5 + 45 * (words / 8) + 50) long, eq-eqb (wordBy capitalOf t 0) id same, ends, f)
+        places-no-lines f = rw (eq-eqb (length t) (5 + 45 * (d .words / 8) + 50) long, good, ends, f)
 
-        pub places-last : linesOk t (words / 8) ≡ true → sheetLineOk t (5 + 45 * (words / 8)) configBase readingTail ≡ placesOk id words t
+        pub places-last : linesOk t (d .words / 8) ≡ true → sheetLineOk t (5 + 45 * (d .words / 8)) configBase readingTail ≡ placesOk d t
         unfolding placesOk
-        places-last f = rw (eq-eqb (length t) (5 + 45 * (words / 8) + 50) long, eq-eqb (wordBy capitalOf t 0) id same, ends, f)
+        places-last f = rw (eq-eqb (length t) (5 + 45 * (d .words / 8) + 50) long, good, ends, f)
 
 -- ---- what is stored
 
@@ -120,19 +125,41 @@ module _ (d : Device) (t b : List ℕ) where
         (rw (sound, f), rw (sound, f))
 
     module _ (room : length b ≡ d .words + readingTail) where
-      fits : eqb (length b) (d .words + readingTail) ≡ true
-      fits = eq-eqb (length b) (d .words + readingTail) room
+      holds : eqb (length b) (d .words + readingTail) ≡ true
+      holds = eq-eqb (length b) (d .words + readingTail) room
 
       pub read-no-sheet : sheetOk d t ≡ false → ReadBy d t b 14 b
       unfolding readNumber readBuffer pick
-      read-no-sheet f = (rw (sound, fits, f), rw (sound, fits, f))
+      read-no-sheet f = (rw (sound, holds, f), rw (sound, holds, f))
 
       pub read-all : sheetOk d t ≡ true → (after : List ℕ) → after ≡ wordsIn (d .words) t → ReadBy d t b 0 after
       unfolding readNumber readBuffer pick
-      read-all y after e = (rw (sound, fits, y), rw (sound, fits, y) e)
+      read-all y after e = (rw (sound, holds, y), rw (sound, holds, y) e)
 
 -- line 1 by itself
 module _ (t : List ℕ) where
+  starts : Bool
+  starts = isWord (idIn t) && eqb (getD t 4 0) lf
+
+  -- the ID that it gives is a word, also beside a refusal
+  pub id-small : firstLine t .id < 0x4000
+  unfolding firstLine starts
+  id-small = by starts refl
+    where
+      by : (b : Bool) → starts ≡ b → pick {A = Line1} b (record { number = 0; id = idIn t }) (record { number = 14; id = 0 }) .id < 0x4000
+      by true e = unfold pick in word-lt (idIn t) (first-holds (isWord (idIn t)) (eqb (getD t 4 0) lf) e)
+      by false e = unfold pick in omega arith
+
+  -- and of a line that is not refused it is the number that stands there
+  pub id-stands : firstLine t .number ≡ 0 → firstLine t .id ≡ idIn t
+  unfolding firstLine starts
+  id-stands = by starts
+    where
+      by : (b : Bool) → pick {A = Line1} b (record { number = 0; id = idIn t }) (record { number = 14; id = 0 }) .number ≡ 0
+          → pick {A = Line1} b (record { number = 0; id = idIn t }) (record { number = 14; id = 0 }) .id ≡ idIn t
+      by true z = unfold pick in refl
+      by false z = absurd (unfold pick in omega (arith, z))
+
   pub id-no-word : 0x4000 ≤ wordBy capitalOf t 0 → record { number = 14; id = 0 } ≡ firstLine t
   unfolding firstLine pick
   id-no-word h = rw (not-word (wordBy capitalOf t 0) h)
@@ -144,6 +171,9 @@ module _ (t : List ℕ) where
   pub id-read : wordBy capitalOf t 0 < 0x4000 → eqb (getD t 4 0) lf ≡ true → (id : ℕ) → id ≡ wordBy capitalOf t 0 → record { number = 0; id = id } ≡ firstLine t
   unfolding firstLine pick
   id-read h f id e = rw (is-word (wordBy capitalOf t 0) h, f, e)
+
+pub first-small : (t : List ℕ) (first : Line1) → first ≡ firstLine t → first .id < 0x4000
+first-small t first e = rw (ap (λ x. x .id) e) (id-small t)
 
 -- ---- the turns of the loops
 

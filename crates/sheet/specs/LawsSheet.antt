@@ -4,7 +4,7 @@ use native.Mathlib.Nat.{not-suc-le-zero, le-of-suc-le-suc, add-zero, zero-add}
 use native.Mathlib.Omega.{arith}
 use native.Mathlib.Decide.{decLt}
 use mathlib.Core.Path.{_≡_, refl, sym, ap, _∙_}
-use mathlib.Core.Bool.{true, false}
+use mathlib.Core.Bool.{Bool, true, false, _&&_}
 use mathlib.Core.Logic.{_↔_}
 use mathlib.Core.List.{List, [], _∷_, _++_}
 use lib.Dec.{ltb, eqb}
@@ -18,10 +18,11 @@ use Rattle.numerals.specs.LawsHex.{length-word-text}
 use Rattle.words.specs.LawsLists.{length-build, getD-build, built}
 use Rattle.words.specs.LawsWord.{words-long, words-each}
 use Rattle.device.specs.declared.Device.{Device}
-use Rattle.device.specs.Record.{deviceOk}
+use Rattle.device.specs.Record.{deviceOk, fits}
 use Rattle.device.specs.Memory.{readingTail, readingOk}
 use Rattle.device.specs.LawsRecord.{rules, words-eighths}
-use Rattle.sheet.specs.Sheet.{fields, lineText, programLines, sheetText, sheetLength, digitsAt, wordsIn, sameText, sheetOk}
+use Rattle.device.specs.LawsId.{fits-word}
+use Rattle.sheet.specs.Sheet.{fields, lineText, programLines, sheetWith, sheetText, sheetLength, idIn, digitsAt, wordsIn, sameText, sheetOk}
 use Rattle.sheet.specs.LawsStands.{Stands, stands-join, stands-left, stands-right, stands-byte, byte-stands, stands-next, stands-cons, stands-self, word-stands}
 
 -- ---- lengths
@@ -44,9 +45,13 @@ length-lines (suc n) k l =
     let rest : length (programLines n (k + 1) l) ≡ 45 * n = length-lines n (k + 1) l in
     rw (length-append, length-line) (omega arith)
 
+pub length-with : (id : ℕ) (d : Device) (l : List ℕ) → length (sheetWith id d l) ≡ sheetLength d
+unfolding sheetWith sheetLength
+length-with id d l = rw (length-append, length-word-text, length-append, length-lines, length-line) (omega arith)
+
 pub length-sheet : (d : Device) (l : List ℕ) → length (sheetText d l) ≡ sheetLength d
-unfolding sheetText sheetLength
-length-sheet d l = rw (length-append, length-word-text, length-append, length-lines, length-line) (omega arith)
+unfolding sheetText
+length-sheet d l = length-with (d .id) d l
 
 -- ---- the parts of a line and of a sheet, each at its place
 
@@ -138,39 +143,39 @@ stand-lines (suc n) at k l t h =
     (rw length-line (stand-lines n (at + (5 + 5 * 8)) (k + 1) l t more))
 
 -- line 1, the program lines and the last line
-pub record Parts (d : Device) (l t : List ℕ) : Type 0 where
-  pub id-here : Stands 0 (wordText (d .id)) t
+pub record Parts (id : ℕ) (d : Device) (l t : List ℕ) : Type 0 where
+  pub id-here : Stands 0 (wordText id) t
   pub end-here : getD t 4 0 ≡ lf
   pub line-here : (k : ℕ) → k < d .words / 8 → Line (5 + 45 * k) (8 * k) 8 (8 * k) l t
   pub last-here : Line (5 + 45 * (d .words / 8)) configBase readingTail (d .words) l t
 
-module _ (d : Device) (l t : List ℕ) where
+module _ (id : ℕ) (d : Device) (l t : List ℕ) where
   -- the text of the program lines and of the last line
   tail : List ℕ
   tail = programLines (d .words / 8) 0 l ++ lineText configBase readingTail (d .words) l
 
-  pub parts-stand : Stands 0 (sheetText d l) t → Parts d l t
-  unfolding sheetText tail
+  pub parts-stand : Stands 0 (sheetWith id d l) t → Parts id d l t
+  unfolding sheetWith tail
   parts-stand p =
-      let rest : Stands 4 (lf ∷ tail) t = rw length-word-text at (stands-right 0 (wordText (d .id)) (lf ∷ tail) t p) in
+      let rest : Stands 4 (lf ∷ tail) t = rw length-word-text at (stands-right 0 (wordText id) (lf ∷ tail) t p) in
       let body : Stands 5 tail t = stands-next 4 lf tail t rest in
       let program : Stands 5 (programLines (d .words / 8) 0 l) t = stands-left 5 (programLines (d .words / 8) 0 l) (lineText configBase readingTail (d .words) l) t body in
       let last : Stands (5 + 45 * (d .words / 8)) (lineText configBase readingTail (d .words) l) t = rw length-lines at
       (stands-right 5 (programLines (d .words / 8) 0 l) (lineText configBase readingTail (d .words) l) t body) in
       record {
-        id-here = stands-left 0 (wordText (d .id)) (lf ∷ tail) t p;
+        id-here = stands-left 0 (wordText id) (lf ∷ tail) t p;
         end-here = byte-stands 4 lf tail t rest;
         line-here = λ k h. line-stands (5 + 45 * k) (8 * k) 8 (8 * k) l t (rw zero-add at (lines-stand (d .words / 8) 5 0 l t program k h));
         last-here = line-stands (5 + 45 * (d .words / 8)) configBase readingTail (d .words) l t last;
       }
 
-  pub stand-parts : Parts d l t → Stands 0 (sheetText d l) t
-  unfolding sheetText tail
+  pub stand-parts : Parts id d l t → Stands 0 (sheetWith id d l) t
+  unfolding sheetWith tail
   stand-parts p =
       let program : Stands 5 (programLines (d .words / 8) 0 l) t =
       stand-lines (d .words / 8) 5 0 l t (λ k h. rw zero-add (stand-line (5 + 45 * k) (8 * k) 8 (8 * k) l t (p .line-here k h))) in
       let last : Stands (5 + 45 * (d .words / 8)) (lineText configBase readingTail (d .words) l) t = stand-line (5 + 45 * (d .words / 8)) configBase readingTail (d .words) l t (p .last-here) in
-      stands-join 0 (wordText (d .id)) (lf ∷ tail) t (p .id-here)
+      stands-join 0 (wordText id) (lf ∷ tail) t (p .id-here)
       (rw length-word-text
       (stands-cons 4 lf tail t (p .end-here)
       (stands-join 5 (programLines (d .words / 8) 0 l) (lineText configBase readingTail (d .words) l) t program (rw length-lines last))))
@@ -225,7 +230,7 @@ module _ (d : Device) (sound : deviceOk d ≡ true) where
   eighths : d .words % 8 ≡ 0
   eighths = words-eighths d (rules d sound)
 
-  module _ (l t : List ℕ) (parts : Parts d l t) (long : length l ≡ d .words + readingTail) (small : (i : ℕ) → getD l i 0 < 0x4000) where
+  module _ (id : ℕ) (l t : List ℕ) (parts : Parts id d l t) (long : length l ≡ d .words + readingTail) (small : (i : ℕ) → getD l i 0 < 0x4000) where
     -- each word is read where it stands
     word-read : (i : ℕ) → i < d .words + readingTail → Dec (i < d .words) → getD l i 0 ≡ wordBy capitalOf t (digitsAt (d .words) i)
     word-read i h (yes p) =
@@ -250,29 +255,47 @@ module _ (d : Device) (sound : deviceOk d ≡ true) where
     unfolding wordsIn
     read-back = sym (built l (d .words + readingTail) (λ i. wordBy capitalOf t (digitsAt (d .words) i)) long (λ i h. word-read i h (decLt i (d .words))))
 
-  -- what is written is a sheet, and it is read back as the same reading
-  pub written-read : (l : List ℕ) → readingOk (d .words) l ≡ true → (sheetOk d (sheetText d l) ≡ true) × (wordsIn (d .words) (sheetText d l) ≡ l)
+  -- what is written with an ID that fits is a sheet, and it is read back as the same reading and the same ID
+  pub written-read : (id : ℕ) → fits d id ≡ true → (l : List ℕ) → readingOk (d .words) l ≡ true
+      → (sheetOk d (sheetWith id d l) ≡ true) × (idIn (sheetWith id d l) ≡ id) × (wordsIn (d .words) (sheetWith id d l) ≡ l)
   unfolding readingOk sheetOk
-  written-read l ok =
-      let t : List ℕ = sheetText d l in
-      let same : wordsIn (d .words) t ≡ l = read-back l t (parts-stand d l t (stands-self t)) (words-long (d .words + readingTail) l ok) (words-each (d .words + readingTail) l ok) in
-      (rw same (both (readingOk (d .words) l) (sameText t (sheetText d l)) ok (same-self t)), same)
+  written-read id good l ok =
+      let t : List ℕ = sheetWith id d l in
+      let parts : Parts id d l t = parts-stand id d l t (stands-self t) in
+      let small : id < 0x4000 = fits-word d id good in
+      let name : idIn t ≡ id = word-stands t 0 id (parts .id-here) (omega arith) in
+      let same : wordsIn (d .words) t ≡ l = read-back id l t parts (words-long (d .words + readingTail) l ok) (words-each (d .words + readingTail) l ok) in
+      (rw (name, same) (both (fits d id && readingOk (d .words) l) (sameText t (sheetWith id d l)) (both (fits d id) (readingOk (d .words) l) good ok) (same-self t)), name, same)
 
--- a sheet's words are a reading
-pub read-sound : (d : Device) (t : List ℕ) → sheetOk d t ≡ true → readingOk (d .words) (wordsIn (d .words) t) ≡ true
-unfolding sheetOk
-read-sound d t e = first-holds (readingOk (d .words) (wordsIn (d .words) t)) (sameText t (sheetText d (wordsIn (d .words) t))) e
+module _ (d : Device) (t : List ℕ) where
+  named : Bool
+  named = fits d (idIn t)
 
--- what is read is written back as the same bytes
-pub read-written : (d : Device) (t : List ℕ) → sheetOk d t ≡ true → sheetText d (wordsIn (d .words) t) ≡ t
-unfolding sheetOk
-read-written d t e =
-    sym (same-equal t (sheetText d (wordsIn (d .words) t))
-    (second-holds (readingOk (d .words) (wordsIn (d .words) t)) (sameText t (sheetText d (wordsIn (d .words) t))) e))
+  reads : Bool
+  reads = readingOk (d .words) (wordsIn (d .words) t)
 
--- a text is a sheet just where it is what is written of some reading
-pub sheet-exactly : (d : Device) → deviceOk d ≡ true → (t : List ℕ) → (sheetOk d t ≡ true) ↔ ((l : List ℕ) × (readingOk (d .words) l ≡ true) × (sheetText d l ≡ t))
+  again : Bool
+  again = sameText t (sheetWith (idIn t) d (wordsIn (d .words) t))
+
+  -- line 1 of a sheet fits the record
+  pub read-fits : sheetOk d t ≡ true → fits d (idIn t) ≡ true
+  unfolding sheetOk named reads again
+  read-fits e = first-holds named reads (first-holds (named && reads) again e)
+
+  -- a sheet's words are a reading
+  pub read-sound : sheetOk d t ≡ true → readingOk (d .words) (wordsIn (d .words) t) ≡ true
+  unfolding sheetOk named reads again
+  read-sound e = second-holds named reads (first-holds (named && reads) again e)
+
+  -- what is read is written back as the same bytes, with line 1's ID
+  pub read-written : sheetOk d t ≡ true → sheetWith (idIn t) d (wordsIn (d .words) t) ≡ t
+  unfolding sheetOk named reads again
+  read-written e = sym (same-equal t (sheetWith (idIn t) d (wordsIn (d .words) t)) (second-holds (named && reads) again e))
+
+-- a text is a sheet just where it is what is written of some reading with some ID that fits
+pub sheet-exactly : (d : Device) → deviceOk d ≡ true → (t : List ℕ)
+    → (sheetOk d t ≡ true) ↔ ((id : ℕ) × (fits d id ≡ true) × (l : List ℕ) × (readingOk (d .words) l ≡ true) × (sheetWith id d l ≡ t))
 sheet-exactly d sound t = (
-  (λ e. (wordsIn (d .words) t, read-sound d t e, read-written d t e)),
-  (λ w. ap (sheetOk d) (sym (w .2)) ∙ written-read d sound (w .0) (w .1) .0),
+  (λ e. (idIn t, read-fits d t e, wordsIn (d .words) t, read-sound d t e, read-written d t e)),
+  (λ w. ap (sheetOk d) (sym (w .4)) ∙ written-read d sound (w .0) (w .1) (w .2) (w .3) .0),
 )

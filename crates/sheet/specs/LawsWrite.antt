@@ -3,7 +3,7 @@ use Prim.Native.Nat.{ℕ, suc, _+_, _-_, _*_, _/_, _≤_, _<_}
 use native.Mathlib.Nat.{add-zero}
 use native.Mathlib.Numerals.{add-one}
 use native.Mathlib.Omega.{arith}
-use mathlib.Core.Path.{_≡_, sym, ap, _∙_}
+use mathlib.Core.Path.{_≡_, refl, sym, ap, _∙_}
 use mathlib.Core.Bool.{true, false}
 use mathlib.Core.List.{List, [], _∷_, _++_}
 use lib.Dec.{leb}
@@ -19,8 +19,9 @@ use Rattle.words.specs.LawsLists.{sets-append}
 use Rattle.device.specs.declared.Device.{Device}
 use Rattle.device.specs.Record.{deviceOk}
 use Rattle.device.specs.Memory.{readingTail, readingOk}
+use Rattle.device.specs.LawsId.{withId}
 use Rattle.sheet.specs.declared.Written.{Written}
-use Rattle.sheet.specs.Sheet.{fields, lineText, programLines, sheetText, sheetLength, written, writtenText}
+use Rattle.sheet.specs.Sheet.{fields, lineText, programLines, sheetWith, sheetText, sheetLength, written, writtenText}
 use Rattle.sheet.specs.LawsSheet.{length-fields, length-line, length-lines}
 
 -- a text stored, and the next one where it ends
@@ -83,11 +84,16 @@ lines-done n k l o h = let none : n - k ≡ 0 = omega arith in rw none
 module _ (d : Device) (l o p q r s : List ℕ) where
   pub sheet-put : p ≡ sets o 0 (wordText (d .id)) → q ≡ set p 4 lf → r ≡ sets q 5 (programLines (d .words / 8) 0 l)
       → s ≡ sets r (5 + 45 * (d .words / 8)) (lineText configBase readingTail (d .words) l) → s ≡ sets o 0 (sheetText d l)
-  unfolding sheetText
+  unfolding sheetText sheetWith
   sheet-put e f g h =
       sym (sets-then o 0 (wordText (d .id)) (lf ∷ (programLines (d .words / 8) 0 l ++ lineText configBase readingTail (d .words) l)) 4 (length-word-text (d .id))
       ∙ (sets-then (set (sets o 0 (wordText (d .id))) 4 lf) 5 (programLines (d .words / 8) 0 l) (lineText configBase readingTail (d .words) l) (45 * (d .words / 8)) (length-lines (d .words / 8) 0 l)
       ∙ rw (h, g, f, e)))
+
+-- a record whose ID is another writes the same words with that ID
+pub with-text : (d : Device) (id : ℕ) (l : List ℕ) → sheetText (withId d id) l ≡ sheetWith id d l
+unfolding sheetText sheetWith
+with-text d id l = refl
 
 -- ---- the answers
 

@@ -1,4 +1,4 @@
--- Board sheets ('Sheets'; refusals 12, 14, 21, 26). Text is a list of bytes.
+-- Board sheets ('Sheets'; refusals 12, 14, 21, 26; #107 for line 1). Text is a list of bytes.
 use Prim.Native.Nat.{ℕ, zero, suc, _+_, _-_, _*_, _/_, _%_}
 use mathlib.Core.Bool.{Bool, true, false, _&&_}
 use mathlib.Core.List.{List, [], _∷_, _++_}
@@ -12,7 +12,7 @@ use Rattle.numerals.specs.Text.{tab, lf}
 use Rattle.numerals.specs.Hex.{capitalOf, wordBy, wordText}
 use Rattle.words.specs.Address.{configBase}
 use Rattle.device.specs.declared.Device.{Device}
-use Rattle.device.specs.Record.{mostWords, deviceOk}
+use Rattle.device.specs.Record.{mostWords, deviceOk, fits}
 use Rattle.device.specs.Memory.{readingTail, readingOk}
 use Rattle.sheet.specs.declared.Written.{Written}
 use Rattle.sheet.specs.declared.Line1.{Line1}
@@ -33,10 +33,14 @@ unfoldable pub programLines : (n k : ℕ) → List ℕ → List ℕ
 programLines zero k l = []
 programLines (suc n) k l = lineText (8 * k) 8 (8 * k) l ++ programLines n (k + 1) l
 
--- line 1 is the device ID; then the program words, eight a line; last a line 8000 with nine words
+-- line 1 is a device ID; then the program words, eight a line; last a line 8000 with nine words
+unfoldable pub sheetWith : (id : ℕ) → Device → List ℕ → List ℕ
+sheetWith id d l =
+    wordText id ++ (lf ∷ (programLines (d .words / 8) 0 l ++ lineText configBase readingTail (d .words) l))
+
+-- with the record's ID
 unfoldable pub sheetText : Device → List ℕ → List ℕ
-sheetText d l =
-    wordText (d .id) ++ (lf ∷ (programLines (d .words / 8) 0 l ++ lineText configBase readingTail (d .words) l))
+sheetText d l = sheetWith (d .id) d l
 
 -- the most lines of program words
 abbrev pub mostProgramLines : ℕ
@@ -47,6 +51,10 @@ unfoldable pub sheetLength : Device → ℕ
 sheetLength d = 5 + 45 * (d .words / 8) + 50
 
 -- ---- what is read
+
+-- the number on line 1
+abbrev pub idIn : List ℕ → ℕ
+idIn text = wordBy capitalOf text 0
 
 -- where the digits of word i stand
 unfoldable pub digitsAt : (words i : ℕ) → ℕ
@@ -62,9 +70,12 @@ sameText [] (c ∷ m) = false
 sameText (c ∷ l) [] = false
 sameText (c ∷ l) (b ∷ m) = eqb c b && sameText l m
 
--- a text is a sheet if it is just what is written of the words that stand in it, and these are a reading
+-- a text is a sheet if line 1's number fits the record, the words that stand in it are a reading, and it is just what is written of both
 unfoldable pub sheetOk : Device → List ℕ → Bool
-sheetOk d text = readingOk (d .words) (wordsIn (d .words) text) && sameText text (sheetText d (wordsIn (d .words) text))
+sheetOk d text =
+    fits d (idIn text)
+    && readingOk (d .words) (wordsIn (d .words) text)
+    && sameText text (sheetWith (idIn text) d (wordsIn (d .words) text))
 
 -- ---- answers
 
@@ -95,5 +106,5 @@ writtenText d l out = pick (eqb (written d l out .number) 0) (sets out 0 (sheetT
 -- the first line alone: an ID that some record can have, and LF
 unfoldable pub firstLine : List ℕ → Line1
 firstLine text =
-    unless (isWord (wordBy capitalOf text 0) && eqb (getD text 4 0) lf) (record { number = 14; id = 0 })
-    (record { number = 0; id = wordBy capitalOf text 0 })
+    unless (isWord (idIn text) && eqb (getD text 4 0) lf) (record { number = 14; id = 0 })
+    (record { number = 0; id = idIn text })

@@ -12,8 +12,8 @@ ghost use Prim.Native.Nat.{_+_, _*_, _≤_, _<_};
 ghost use lib.Dec.{eqb};
 ghost use lib.ListN.{length, getD};
 ghost use Rattle.device.specs.Memory.{readingTail, readingOk};
-ghost use Rattle.device.specs.Record.{mostWords};
-ghost use Rattle.sheet.specs.Sheet.{mostProgramLines, digitsAt, wordsIn, readNumber, readBuffer, firstLine};
+ghost use Rattle.device.specs.Record.{mostWords, fits};
+ghost use Rattle.sheet.specs.Sheet.{mostProgramLines, idIn, digitsAt, wordsIn, readNumber, readBuffer, firstLine};
 ghost use Rattle.sheet.specs.LawsPlaces.{fieldOk, fieldsOk, sheetLineOk, linesOk, placesOk};
 
 // Reads a sheet into a buffer: 13, 12 or 14 where it cannot, and then the buffer stays.
@@ -27,7 +27,7 @@ pub fn read_sheet(d: Device, text: &[u8], buffer: &mut [u16]) -> u8
     if buffer.len() != program + READING_TAIL {
         return 12;
     }
-    if places_ok(d.id, program, text) {} else {
+    if places_ok(d, text) {} else {
         return 14;
     }
     store(program, text, buffer);
@@ -54,15 +54,15 @@ pub fn read_id(text: &[u8]) -> Line1
 const NO_ID: Line1 = Line1 { number: 14, id: 0 };
 
 // Whether a text has the length of a sheet and everything in it stands at its place.
-fn places_ok(id: u16, program: usize, text: &[u8]) -> bool
-    requires { ⌜ program ≤ mostWords ⌝ }
-    ensures { λ r. ⌜ r ≡ placesOk id program (now (text .entry)) ⌝ }
+fn places_ok(d: Device, text: &[u8]) -> bool
+    requires { ⌜ d .words ≤ mostWords ⌝ }
+    ensures { λ r. ⌜ r ≡ placesOk d (now (text .entry)) ⌝ }
 {
-    let lines = program / 8;
+    let lines = (d.words as usize) / 8;
     if text.len() != 5 + 45 * lines + 50 {
         return false;
     }
-    if numerals::hex::capital_word(text, 0) != id as u32 {
+    if id_ok(d, text) {} else {
         return false;
     }
     if byte_is(text, 4, LF) {} else {
@@ -72,6 +72,17 @@ fn places_ok(id: u16, program: usize, text: &[u8]) -> bool
         return false;
     }
     line_ok(text, 5 + 45 * lines, CONFIG_BASE, READING_TAIL)
+}
+
+// Whether line 1's number fits the record.
+fn id_ok(d: Device, text: &[u8]) -> bool
+    ensures { λ r. ⌜ r ≡ fits d (idIn (now (text .entry))) ⌝ }
+{
+    let id = numerals::hex::capital_word(text, 0);
+    if WORD_LIMIT as u32 <= id {
+        return false;
+    }
+    device::fits(d, id as u16)
 }
 
 // The program lines, each with its address.

@@ -7,11 +7,10 @@ use mathlib.Core.List.{List, [], _∷_}
 use lib.Dec.{leb, eqb}
 use lib.ListN.{length}
 use Rattle.words.specs.LawsChoice.{pick-true, both, first-holds, second-holds}
-use Rattle.numerals.specs.Text.{tab, split}
 use Rattle.numerals.specs.Decimal.{isDecimal}
 use Rattle.device.specs.Record.{mostWords, deviceUpTo}
 use Rattle.device.specs.LawsRecord.{more-words}
-use Rattle.table.specs.Table.{field, nameOk, hexOk, deviceOf, lineUpTo, tableLines, mostLines, endsInLf, linesUpTo, idsOnce, tableUpTo, tableOk, foundUpTo, foundIn}
+use Rattle.table.specs.Table.{field, nameOk, hexOk, deviceOf, countOk, lineUpTo, tableLines, mostLines, endsInLf, linesUpTo, idsOnce, tableUpTo, tableOk, foundUpTo, foundIn}
 
 module _ (a b : ℕ) (h : a ≤ b) where
   more-line : (line : List ℕ) → lineUpTo a line ≡ true → lineUpTo b line ≡ true
@@ -22,7 +21,7 @@ module _ (a b : ℕ) (h : a ≤ b) where
     where
       fields : Bool
       fields =
-          eqb (length (split tab line)) 6 && nameOk (field 0 line) && hexOk (field 1 line) && isDecimal (field 2 line) && isDecimal (field 3 line) && hexOk (field 4 line) && hexOk (field 5 line)
+          countOk line && nameOk (field 0 line) && hexOk (field 1 line) && isDecimal (field 2 line) && isDecimal (field 3 line) && hexOk (field 4 line) && hexOk (field 5 line)
 
   more-lines : (ls : List (List ℕ)) → linesUpTo a ls ≡ true → linesUpTo b ls ≡ true
   unfolding linesUpTo

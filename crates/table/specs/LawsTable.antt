@@ -15,10 +15,10 @@ use Rattle.words.specs.LawsChoice.{pick-true, pick-false, first-holds, second-h
 use Rattle.device.specs.declared.Device.{Device}
 use Rattle.numerals.specs.Text.{tab, lf, split}
 use Rattle.numerals.specs.Decimal.{isDecimal}
-use Rattle.device.specs.Record.{mostWords, deviceOk}
+use Rattle.device.specs.Record.{mostWords, deviceOk, fits}
 use Rattle.numerals.specs.LawsText.{part, part-found, part-last, some-piece}
 use Rattle.table.specs.LawsLine.{LineRead}
-use Rattle.table.specs.Table.{butLast, lastOf, field, nameOk, hexOk, deviceOf, lineUpTo, idOf, tableLines, mostLines, endsInLf, linesUpTo, hasId, idsOnce, tableUpTo, tableOk, tableNumber, lineWith, startOf, refused, given, foundUpTo, foundIn}
+use Rattle.table.specs.Table.{butLast, lastOf, field, nameOk, hexOk, deviceOf, countOk, lineUpTo, tableLines, mostLines, endsInLf, linesUpTo, clash, clashes, idsOnce, tableUpTo, tableOk, tableNumber, hasId, lineWith, startOf, refused, given, foundUpTo, foundIn}
 
 -- ---- all pieces but the last, and the last
 
@@ -101,16 +101,16 @@ module _ (n : ℕ) (text : List ℕ) (from r : ℕ) (e : r ≡ from + indexOf lf
         chain : Bool
         chain = endsInLf (drop from text) && leb 1 (n + suc (length rest)) && leb (n + suc (length rest)) mostLines
 
-    pub left-twice : hasId (idOf (take (r - from) (drop from text))) (tableLines (drop (r + 1) text)) ≡ true → leftOk n (drop from text) ≡ false
+    pub left-clash : clashes (deviceOf (take (r - from) (drop from text))) (tableLines (drop (r + 1) text)) ≡ true → leftOk n (drop from text) ≡ false
     unfolding leftOk idsOnce
-    left-twice t =
+    left-clash t =
         rw (lines-more text from r e here h, t)
         (second-fails (endsInLf (drop from text) && leb 1 (n + suc (length rest)) && leb (n + suc (length rest)) mostLines && linesUpTo mostWords (take (r - from) (drop from text) ∷ rest)) false refl)
       where
         rest : List (List ℕ)
         rest = tableLines (drop (r + 1) text)
 
-    pub left-on : lineUpTo mostWords (take (r - from) (drop from text)) ≡ true → hasId (idOf (take (r - from) (drop from text))) (tableLines (drop (r + 1) text)) ≡ false
+    pub left-on : lineUpTo mostWords (take (r - from) (drop from text)) ≡ true → clashes (deviceOf (take (r - from) (drop from text))) (tableLines (drop (r + 1) text)) ≡ false
         → leftOk n (drop from text) ≡ leftOk (n + 1) (drop (r + 1) text)
     unfolding leftOk linesUpTo idsOnce
     left-on t f =
@@ -168,6 +168,26 @@ module _ (text : List ℕ) where
       by true q = absurd (q refl)
       by false q = refl
 
+-- ---- the search for a clash
+
+module _ (d : Device) (text : List ℕ) (from r : ℕ) (e : r ≡ from + indexOf lf (slice from (length text) text)) (within : from < length text)
+    (so : clashes d (tableLines text) ≡ clashes d (tableLines (drop from text))) where
+  pub clash-no-end : length text ≤ r → false ≡ clashes d (tableLines text)
+  clash-no-end h = sym (so ∙ rw (lines-none text from r e (omega arith) h) (unfold clashes in refl))
+
+  module _ (h : r < length text) (given : Bool) (g : given ≡ clash d (deviceOf (take (r - from) (drop from text)))) where
+    more : tableLines (drop from text) ≡ take (r - from) (drop from text) ∷ tableLines (drop (r + 1) text)
+    more = lines-more text from r e (omega arith) h
+
+    pub clash-here : given ≡ true → true ≡ clashes d (tableLines text)
+    clash-here t = sym (so ∙ rw more (unfold clashes in rw (sym g ∙ t)))
+
+    pub clash-on : given ≡ false → clashes d (tableLines text) ≡ clashes d (tableLines (drop (r + 1) text))
+    clash-on f = so ∙ rw more (unfold clashes in rw (sym g ∙ f))
+
+pub clash-none : (d : Device) (text : List ℕ) (from : ℕ) → clashes d (tableLines text) ≡ clashes d (tableLines (drop from text)) → length text ≤ from → false ≡ clashes d (tableLines text)
+clash-none d text from so h = sym (so ∙ rw (lines-end text from h) (unfold clashes in refl))
+
 -- ---- the search for an ID
 
 -- the lines from `from` on still hold what is looked for
@@ -176,7 +196,7 @@ pub record Ahead (id : ℕ) (text : List ℕ) (from : ℕ) : Type 0 where
   pub start : startOf id (tableLines text) ≡ from + startOf id (tableLines (drop from text))
   pub line : lineWith id (tableLines text) ≡ lineWith id (tableLines (drop from text))
 
--- what a search answers: whether a line gives the ID and, if one does, where the first of them stands
+-- what a search answers: whether the ID fits a line's device and, if it does, where the first such line stands
 pub record Sought (id : ℕ) (text : List ℕ) (found : Bool) (at stop : ℕ) : Type 0 where
   pub has : found ≡ hasId id (tableLines text)
   pub start : found ≡ true → at ≡ startOf id (tableLines text)
@@ -185,31 +205,31 @@ pub record Sought (id : ℕ) (text : List ℕ) (found : Bool) (at stop : ℕ) : 
   pub inside : stop ≤ length text
 
 module _ (id : ℕ) (l : List ℕ) (ls : List (List ℕ)) where
-  module _ (e : idOf l ≡ id) where
+  module _ (e : fits (deviceOf l) id ≡ true) where
     has-here : hasId id (l ∷ ls) ≡ true
     unfolding hasId
-    has-here = rw (eq-eqb (idOf l) id e)
+    has-here = rw e
 
     start-here : startOf id (l ∷ ls) ≡ 0
     unfolding startOf pick
-    start-here = rw (eq-eqb (idOf l) id e)
+    start-here = rw e
 
     line-here : lineWith id (l ∷ ls) ≡ l
     unfolding lineWith pick
-    line-here = rw (eq-eqb (idOf l) id e)
+    line-here = rw e
 
-  module _ (n : idOf l ≡ id → ⊥) where
+  module _ (n : fits (deviceOf l) id ≡ false) where
     has-later : hasId id (l ∷ ls) ≡ hasId id ls
     unfolding hasId
-    has-later = rw (ne-eqb (idOf l) id n)
+    has-later = rw n
 
     start-later : startOf id (l ∷ ls) ≡ length l + 1 + startOf id ls
     unfolding startOf pick
-    start-later = rw (ne-eqb (idOf l) id n)
+    start-later = rw n
 
     line-later : lineWith id (l ∷ ls) ≡ lineWith id ls
     unfolding lineWith pick
-    line-later = rw (ne-eqb (idOf l) id n)
+    line-later = rw n
 
 pub ahead-all : (id : ℕ) (text : List ℕ) → Ahead id text 0
 ahead-all id text = record { has = refl; start = sym (zero-add (startOf id (tableLines text))); line = refl }
@@ -228,18 +248,18 @@ module _ (id : ℕ) (text : List ℕ) (from r : ℕ) (e : r ≡ from + indexOf l
         inside = omega arith;
       }
 
-  module _ (h : r < length text) (given : ℕ) (g : given ≡ idOf (take (r - from) (drop from text))) where
+  module _ (h : r < length text) (given : Bool) (g : given ≡ fits (deviceOf (take (r - from) (drop from text))) id) where
     l : List ℕ
     l = take (r - from) (drop from text)
 
     ls : List (List ℕ)
     ls = tableLines (drop (r + 1) text)
 
-    pub sought-here : given ≡ id → Sought id text true from r
+    pub sought-here : given ≡ true → Sought id text true from r
     unfolding l ls
     sought-here q =
         let more : tableLines (drop from text) ≡ l ∷ ls = lines-more text from r e here₂ h in
-        let same : idOf l ≡ id = sym g ∙ q in
+        let same : fits (deviceOf l) id ≡ true = sym g ∙ q in
         record {
           has = sym (so .has ∙ (ap (hasId id) more ∙ has-here id l ls same));
           start = λ t. sym (so .start ∙ (ap (λ x. from + startOf id x) more ∙ (ap (λ n. from + n) (start-here id l ls same) ∙ add-zero from)));
@@ -248,11 +268,11 @@ module _ (id : ℕ) (text : List ℕ) (from r : ℕ) (e : r ≡ from + indexOf l
           inside = omega arith;
         }
 
-    pub ahead-on : (given ≡ id → ⊥) → Ahead id text (r + 1)
+    pub ahead-on : given ≡ false → Ahead id text (r + 1)
     unfolding l ls
     ahead-on q =
         let more : tableLines (drop from text) ≡ l ∷ ls = lines-more text from r e here₂ h in
-        let other : idOf l ≡ id → ⊥ = λ z. q (g ∙ z) in
+        let other : fits (deviceOf l) id ≡ false = sym g ∙ q in
         let long : length l ≡ r - from = length-take-le (r - from) (drop from text) (rw length-drop (omega arith)) in
         let sum : from + (length l + 1 + startOf id ls) ≡ r + 1 + startOf id ls = omega arith in
         record {
@@ -277,13 +297,13 @@ sought-none id text from so h =
 line-with-ok : (id : ℕ) (ls : List (List ℕ)) → linesUpTo mostWords ls ≡ true → hasId id ls ≡ true → lineUpTo mostWords (lineWith id ls) ≡ true
 unfolding linesUpTo hasId lineWith
 line-with-ok id [] a h = absurd (true-not-false h refl)
-line-with-ok id (l ∷ ls) a h = by (eqb (idOf l) id) h (line-with-ok id ls (second-holds (lineUpTo mostWords l) (linesUpTo mostWords ls) a))
+line-with-ok id (l ∷ ls) a h = by (fits (deviceOf l) id) h (line-with-ok id ls (second-holds (lineUpTo mostWords l) (linesUpTo mostWords ls) a))
   where
     by : (t : Bool) → (t || hasId id ls) ≡ true → (hasId id ls ≡ true → lineUpTo mostWords (lineWith id ls) ≡ true) → lineUpTo mostWords (pick t l (lineWith id ls)) ≡ true
     by true q ih = unfold pick in first-holds (lineUpTo mostWords l) (linesUpTo mostWords ls) a
     by false q ih = unfold pick in ih q
 
-lines-ok : (text : List ℕ) → tableOk text ≡ true → linesUpTo mostWords (tableLines text) ≡ true
+pub lines-ok : (text : List ℕ) → tableOk text ≡ true → linesUpTo mostWords (tableLines text) ≡ true
 unfolding tableOk tableUpTo
 lines-ok text e =
     second-holds (endsInLf text && leb 1 (length (tableLines text)) && leb (length (tableLines text)) mostLines) (linesUpTo mostWords (tableLines text))
@@ -314,11 +334,11 @@ module _ (text : List ℕ) (id : ℕ) where
       ∙ sym (pick-true (tableOk text) _ _ t ∙ pick-true (hasId id (tableLines text)) _ _ has)
 
 -- the device of a sound line keeps the rules of a record
-line-device : (line : List ℕ) → lineUpTo mostWords line ≡ true → deviceOk (deviceOf line) ≡ true
+pub line-device : (line : List ℕ) → lineUpTo mostWords line ≡ true → deviceOk (deviceOf line) ≡ true
 unfolding lineUpTo deviceOk
 line-device line e =
     second-holds
-    (eqb (length (split tab line)) 6 && nameOk (field 0 line) && hexOk (field 1 line) && isDecimal (field 2 line) && isDecimal (field 3 line) && hexOk (field 4 line) && hexOk (field 5 line))
+    (countOk line && nameOk (field 0 line) && hexOk (field 1 line) && isDecimal (field 2 line) && isDecimal (field 3 line) && hexOk (field 4 line) && hexOk (field 5 line))
     (deviceOk (deviceOf line)) e
 
 -- and so does each record that is found
@@ -340,18 +360,15 @@ module _ (n : ℕ) (text : List ℕ) (from r : ℕ) (e : r ≡ from + indexOf lf
   pub turn-bad : ok ≡ false → leftOk n (drop from text) ≡ false
   turn-bad f = left-bad-line n text from r e within h (sym (l .test) ∙ f)
 
-  module _ (y : ok ≡ true) (found : Bool) (at stop : ℕ) (s : Sought (d .id) (take (length text - (r + 1)) (drop (r + 1) text)) found at stop) where
-    id-is : d .id ≡ idOf (take (r - from) (drop from text))
-    id-is = ap (λ x. x .id) (l .device y) ∙ (unfold idOf deviceOf in refl)
+  module _ (y : ok ≡ true) (found : Bool) (s : found ≡ clashes d (tableLines (take (length text - (r + 1)) (drop (r + 1) text)))) where
+    clash-is : found ≡ clashes (deviceOf (take (r - from) (drop from text))) (tableLines (drop (r + 1) text))
+    clash-is = s ∙ (ap (λ x. clashes d (tableLines x)) (rest-of text (r + 1)) ∙ ap (λ x. clashes x (tableLines (drop (r + 1) text))) (l .device y))
 
-    has-is : found ≡ hasId (idOf (take (r - from) (drop from text))) (tableLines (drop (r + 1) text))
-    has-is = s .has ∙ (ap (λ x. hasId (d .id) (tableLines x)) (rest-of text (r + 1)) ∙ ap (λ x. hasId x (tableLines (drop (r + 1) text))) id-is)
-
-    pub turn-twice : found ≡ true → leftOk n (drop from text) ≡ false
-    turn-twice t = left-twice n text from r e within h (sym has-is ∙ t)
+    pub turn-clash : found ≡ true → leftOk n (drop from text) ≡ false
+    turn-clash t = left-clash n text from r e within h (sym clash-is ∙ t)
 
     pub turn-on : found ≡ false → leftOk n (drop from text) ≡ leftOk (n + 1) (drop (r + 1) text)
-    turn-on f = left-on n text from r e within h (sym (l .test) ∙ y) (sym has-is ∙ f)
+    turn-on f = left-on n text from r e within h (sym (l .test) ∙ y) (sym clash-is ∙ f)
 
 -- a table without a line
 pub table-empty : 15 ≡ tableNumber []

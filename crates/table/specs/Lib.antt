@@ -2,4 +2,6 @@
 pub mod Table
 pub mod LawsLine
 pub mod LawsTable
+pub mod LawsClash
+pub mod LawsSix
 pub mod LawsLimit

@@ -1,16 +1,18 @@
--- The device table ('The device table'; refusals 15 and 16). Text is a list of bytes.
+-- The device table ('The device table'; refusals 15 and 16; #107 for the ID's mask). Text is a list of bytes.
 use Prim.Native.Nat.{ℕ, _+_}
 use mathlib.Core.Bool.{Bool, true, false, _&&_, _||_, not}
 use mathlib.Core.List.{List, [], _∷_}
 use lib.Dec.{ltb, leb, eqb}
+use lib.Bits.{bitAnd}
 use lib.ListN.{length, getD}
 use Rattle.words.specs.Choice.{pick, unless}
+use Rattle.words.specs.Word.{erased}
 use Rattle.numerals.specs.Text.{tab, lf, split}
 use Rattle.numerals.specs.Hex.{within, capitalOf, wordBy}
 use Rattle.numerals.specs.Decimal.{isDecimal, valueOf}
 use Rattle.device.specs.declared.Device.{Device}
 use Rattle.table.specs.declared.Found.{Found}
-use Rattle.device.specs.Record.{mostWords, deviceUpTo}
+use Rattle.device.specs.Record.{mostWords, deviceUpTo, fits}
 
 -- ---- lines
 
@@ -48,21 +50,34 @@ hexField f = pick (eqb (length f) 4) (wordBy capitalOf f 0) 65536
 unfoldable pub hexOk : List ℕ → Bool
 hexOk f = ltb (hexField f) 65536
 
--- a line's fields: name, ID, program words, row words, mask 1, mask 2
+-- the ID that a line gives
+unfoldable pub idOf : List ℕ → ℕ
+idOf line = hexField (field 1 line)
+
+-- and the ID's mask: the last of seven fields, every bit otherwise
+unfoldable pub idMaskOf : List ℕ → ℕ
+idMaskOf line = pick (eqb (length (split tab line)) 7) (hexField (field 6 line)) erased
+
+-- a line's fields: name, ID, program words, row words, mask 1, mask 2, and the ID's mask
 unfoldable pub deviceOf : List ℕ → Device
 deviceOf line =
     record {
-      id = hexField (field 1 line);
+      id = idOf line;
       words = valueOf (field 2 line);
       row = valueOf (field 3 line);
       mask1 = hexField (field 4 line);
       mask2 = hexField (field 5 line);
+      idmask = idMaskOf line;
     }
 
--- six fields, each of its kind, and a device that keeps the rules of a record with so many program words at most
+-- six fields, or seven with the ID's mask last
+unfoldable pub countOk : List ℕ → Bool
+countOk line = eqb (length (split tab line)) 6 || (eqb (length (split tab line)) 7 && hexOk (field 6 line))
+
+-- so many fields, each of its kind, and a device that keeps the rules of a record with so many program words at most
 unfoldable pub lineUpTo : (most : ℕ) → List ℕ → Bool
 lineUpTo most line =
-    eqb (length (split tab line)) 6
+    countOk line
     && nameOk (field 0 line)
     && hexOk (field 1 line)
     && isDecimal (field 2 line)
@@ -70,10 +85,6 @@ lineUpTo most line =
     && hexOk (field 4 line)
     && hexOk (field 5 line)
     && deviceUpTo most (deviceOf line)
-
--- the ID that a line gives
-unfoldable pub idOf : List ℕ → ℕ
-idOf line = hexField (field 1 line)
 
 -- ---- the table
 
@@ -89,21 +100,25 @@ unfoldable pub linesUpTo : (most : ℕ) → List (List ℕ) → Bool
 linesUpTo most [] = true
 linesUpTo most (l ∷ ls) = lineUpTo most l && linesUpTo most ls
 
--- one of the lines gives this ID
-unfoldable pub hasId : ℕ → List (List ℕ) → Bool
-hasId id [] = false
-hasId id (l ∷ ls) = eqb (idOf l) id || hasId id ls
+-- two devices clash if their IDs agree wherever both masks have 1
+unfoldable pub clash : Device → Device → Bool
+clash d e = eqb (bitAnd (d .id) (bitAnd (d .idmask) (e .idmask))) (bitAnd (e .id) (bitAnd (d .idmask) (e .idmask)))
 
--- no ID twice
+-- one of the lines gives a device that clashes with this one
+unfoldable pub clashes : Device → List (List ℕ) → Bool
+clashes d [] = false
+clashes d (l ∷ ls) = clash d (deviceOf l) || clashes d ls
+
+-- no two lines clash
 unfoldable pub idsOnce : List (List ℕ) → Bool
 idsOnce [] = true
-idsOnce (l ∷ ls) = not (hasId (idOf l) ls) && idsOnce ls
+idsOnce (l ∷ ls) = not (clashes (deviceOf l) ls) && idsOnce ls
 
 -- the most lines
 abbrev pub mostLines : ℕ
 mostLines = 64
 
--- each line ends in LF, 1 to 64 lines, each a device's with so many program words at most, no ID twice
+-- each line ends in LF, 1 to 64 lines, each a device's with so many program words at most, no two that clash
 unfoldable pub tableUpTo : (most : ℕ) → List ℕ → Bool
 tableUpTo most text =
     endsInLf text
@@ -122,19 +137,24 @@ tableNumber text = unless (tableOk text) 15 0
 
 -- ---- the record of an ID
 
--- the first line that gives the ID
+-- one of the lines gives a device that the ID fits
+unfoldable pub hasId : ℕ → List (List ℕ) → Bool
+hasId id [] = false
+hasId id (l ∷ ls) = fits (deviceOf l) id || hasId id ls
+
+-- the first such line
 unfoldable pub lineWith : ℕ → List (List ℕ) → List ℕ
 lineWith id [] = []
-lineWith id (l ∷ ls) = pick (eqb (idOf l) id) l (lineWith id ls)
+lineWith id (l ∷ ls) = pick (fits (deviceOf l) id) l (lineWith id ls)
 
 -- where that line begins: after each line before it and its LF
 unfoldable pub startOf : ℕ → List (List ℕ) → ℕ
 startOf id [] = 0
-startOf id (l ∷ ls) = pick (eqb (idOf l) id) 0 (length l + 1 + startOf id ls)
+startOf id (l ∷ ls) = pick (fits (deviceOf l) id) 0 (length l + 1 + startOf id ls)
 
 -- a refusal names nothing else
 unfoldable pub refused : ℕ → Found
-refused n = record { number = n; device = record { id = 0; words = 0; row = 0; mask1 = 0; mask2 = 0 }; «name_at» = 0; «name_len» = 0 }
+refused n = record { number = n; device = record { id = 0; words = 0; row = 0; mask1 = 0; mask2 = 0; idmask = 0 }; «name_at» = 0; «name_len» = 0 }
 
 -- the record that a line gives, and the place of its name in the text
 unfoldable pub given : (at : ℕ) → List ℕ → Found

@@ -1,13 +1,18 @@
-// One line of a device table: six fields parted by tabs.
+// One line of a device table: six or seven fields parted by tabs.
 use device::Device;
 use device::MOST_WORDS;
 use device::judge;
+use words::ERASED;
+use words::WORD_LIMIT;
 ghost use mathlib.Core.Path.{_≡_};
 ghost use mathlib.Core.Bool.{true, false};
-ghost use Rattle.table.specs.Table.{nameOk, hexField, idOf};
-ghost use Rattle.table.specs.LawsLine.{Tabbed, Cut, Made, LineRead};
+ghost use lib.Dec.{leb};
+ghost use lib.ListN.{length};
+ghost use Rattle.device.specs.Record.{fits};
+ghost use Rattle.table.specs.Table.{nameOk, hexField, idOf, idMaskOf, deviceOf, clash};
+ghost use Rattle.table.specs.LawsLine.{sixOrSeven, after, maskIn, Tabbed, Cut, Made, LineRead};
 
-// Where the five tabs of a line stand, if it has just five.
+// Where the first five tabs of a line stand and where its sixth field ends, if it has six fields or seven.
 pub(crate) struct Tabs {
     pub ok: bool,
     pub a: usize,
@@ -15,6 +20,7 @@ pub(crate) struct Tabs {
     pub c: usize,
     pub d: usize,
     pub e: usize,
+    pub f: usize,
 }
 
 // A device, if the numbers that it was made of keep the rules.
@@ -39,6 +45,7 @@ const NO_TABS: Tabs = Tabs {
     c: 0,
     d: 0,
     e: 0,
+    f: 0,
 };
 
 pub(crate) fn read_line(line: &[u8]) -> Line
@@ -46,15 +53,15 @@ pub(crate) fn read_line(line: &[u8]) -> Line
 {
     let t = cut(line);
     if t.ok {
-        read_fields(line, t.a, t.b, t.c, t.d, t.e)
+        read_fields(line, t.a, t.b, t.c, t.d, t.e, t.f)
     } else {
         no_line()
     }
 }
 
-// The six fields, between the tabs.
-fn read_fields(line: &[u8], a: usize, b: usize, c: usize, d: usize, e: usize) -> Line
-    requires { ⌜ Tabbed (now line) a b c d e ⌝ }
+// The fields, between the tabs.
+fn read_fields(line: &[u8], a: usize, b: usize, c: usize, d: usize, e: usize, f: usize) -> Line
+    requires { ⌜ Tabbed (now line) a b c d e f ⌝ }
     ensures { λ r. ⌜ LineRead (now (line .entry)) (r .ok) (r .name) (r .device) ⌝ }
 {
     if name_ok(&line[..a]) {} else {
@@ -64,8 +71,9 @@ fn read_fields(line: &[u8], a: usize, b: usize, c: usize, d: usize, e: usize) ->
     let words = numerals::decimal::read(&line[b + 1..c], MOST_WORDS as u32);
     let row = numerals::decimal::read(&line[c + 1..d], 32);
     let mask1 = hex_field(&line[d + 1..e]);
-    let mask2 = hex_field(&line[e + 1..]);
-    let m = device_of(id, words, row, mask1, mask2);
+    let mask2 = hex_field(&line[e + 1..f]);
+    let idmask = mask_after(line, f);
+    let m = device_of(id, words, row, mask1, mask2, idmask);
     let device = m.device;
     Line {
         ok: m.ok,
@@ -75,7 +83,7 @@ fn read_fields(line: &[u8], a: usize, b: usize, c: usize, d: usize, e: usize) ->
 }
 
 // The ID that a line gives; 65,536 if its second field is not four capital hex digits.
-pub(crate) fn line_id(line: &[u8]) -> u32
+fn line_id(line: &[u8]) -> u32
     ensures { λ r. ⌜ r ≡ idOf (now (line .entry)) ⌝ }
 {
     let a = bytes::scan::find(line, 0, line.len(), TAB);
@@ -86,8 +94,40 @@ pub(crate) fn line_id(line: &[u8]) -> u32
     hex_field(&line[a + 1..b])
 }
 
+// The ID's mask that a line gives: the last of seven fields, and every bit of any other line.
+fn line_mask(line: &[u8]) -> u32
+    ensures { λ r. ⌜ r ≡ idMaskOf (now (line .entry)) ⌝ }
+{
+    let t = cut(line);
+    if t.ok {
+        return mask_after(line, t.f);
+    }
+    ERASED as u32
+}
+
+// Whether a word fits the device that a line gives; the line may break any rule.
+pub(crate) fn line_fits(line: &[u8], w: u16) -> bool
+    ensures { λ r. ⌜ r ≡ fits (deviceOf (now (line .entry))) w ⌝ }
+{
+    if WORD_LIMIT <= w {
+        return false;
+    }
+    let mask = line_mask(line);
+    let id = line_id(line);
+    (w as u32) & mask == id & mask
+}
+
+// Whether the device that a line gives clashes with another; the line may break any rule.
+pub(crate) fn line_clashes(line: &[u8], d: Device) -> bool
+    ensures { λ r. ⌜ r ≡ clash d (deviceOf (now (line .entry))) ⌝ }
+{
+    let both = (d.idmask as u32) & line_mask(line);
+    let id = line_id(line);
+    (d.id as u32) & both == id & both
+}
+
 fn cut(line: &[u8]) -> Tabs
-    ensures { λ r. ⌜ Cut (now (line .entry)) (r .ok) (r .a) (r .b) (r .c) (r .d) (r .e) ⌝ }
+    ensures { λ r. ⌜ Cut (now (line .entry)) (r .ok) (r .a) (r .b) (r .c) (r .d) (r .e) (r .f) ⌝ }
 {
     let n = line.len();
     let a = bytes::scan::find(line, 0, n, TAB);
@@ -110,7 +150,8 @@ fn cut(line: &[u8]) -> Tabs
     if n <= e {
         return NO_TABS;
     }
-    if bytes::scan::find(line, e + 1, n, TAB) < n {
+    let f = bytes::scan::find(line, e + 1, n, TAB);
+    if one_more(line, f) {} else {
         return NO_TABS;
     }
     Tabs {
@@ -120,7 +161,30 @@ fn cut(line: &[u8]) -> Tabs
         c,
         d,
         e,
+        f,
     }
+}
+
+// Whether at most one field follows the one that ends here.
+fn one_more(line: &[u8], end: usize) -> bool
+    ensures { λ r. ⌜ r ≡ leb (length (after (now (line .entry)) end)) 1 ⌝ }
+{
+    let n = line.len();
+    if n <= end {
+        return true;
+    }
+    n <= bytes::scan::find(line, end + 1, n, TAB)
+}
+
+// The ID's mask after the sixth field, which ends here; every bit where nothing follows.
+fn mask_after(line: &[u8], end: usize) -> u32
+    requires { ⌜ leb (length (after (now line) end)) 1 ≡ true ⌝ }
+    ensures { λ r. ⌜ r ≡ maskIn (after (now (line .entry)) end) ⌝ }
+{
+    if line.len() <= end {
+        return ERASED as u32;
+    }
+    hex_field(&line[end + 1..])
 }
 
 // A name: 1 to 16 characters, 20h to 7Eh.
@@ -159,8 +223,8 @@ fn hex_field(f: &[u8]) -> u32
 }
 
 // The device of the numbers that a line gives, if they keep the rules of a record.
-fn device_of(id: u32, words: u64, row: u64, mask1: u32, mask2: u32) -> Maybe
-    ensures { λ r. ⌜ Made id words row mask1 mask2 (r .ok) (r .device) ⌝ }
+fn device_of(id: u32, words: u64, row: u64, mask1: u32, mask2: u32, idmask: u32) -> Maybe
+    ensures { λ r. ⌜ Made id words row mask1 mask2 idmask (r .ok) (r .device) ⌝ }
 {
     if 0x4000 <= id {
         return no_device();
@@ -177,12 +241,16 @@ fn device_of(id: u32, words: u64, row: u64, mask1: u32, mask2: u32) -> Maybe
     if 0x4000 <= mask2 {
         return no_device();
     }
+    if 0x4000 <= idmask {
+        return no_device();
+    }
     let device = Device {
         id: id as u16,
         words: words as u16,
         row: row as u16,
         mask1: mask1 as u16,
         mask2: mask2 as u16,
+        idmask: idmask as u16,
     };
     if judge(device) != 0 {
         return no_device();
@@ -191,7 +259,7 @@ fn device_of(id: u32, words: u64, row: u64, mask1: u32, mask2: u32) -> Maybe
 }
 
 pub(crate) fn zero_device() -> Device
-    ensures { λ r. ⌜ r ≡ record { id = 0; words = 0; row = 0; mask1 = 0; mask2 = 0 } ⌝ }
+    ensures { λ r. ⌜ r ≡ record { id = 0; words = 0; row = 0; mask1 = 0; mask2 = 0; idmask = 0 } ⌝ }
 {
     Device {
         id: 0,
@@ -199,6 +267,7 @@ pub(crate) fn zero_device() -> Device
         row: 0,
         mask1: 0,
         mask2: 0,
+        idmask: 0,
     }
 }
 

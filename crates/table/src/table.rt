@@ -1,14 +1,15 @@
 // The device table: one device a line.
 use crate::Found;
-use crate::line::line_id;
+use crate::line::line_clashes;
+use crate::line::line_fits;
 use crate::line::read_line;
 use crate::line::zero_device;
 use device::Device;
 ghost use mathlib.Core.Path.{_≡_};
-ghost use Rattle.table.specs.Table.{tableNumber, refused, foundIn};
+ghost use Rattle.table.specs.Table.{tableLines, clashes, tableNumber, refused, foundIn};
 ghost use Rattle.table.specs.LawsTable.{Sought};
 
-// The line that gives an ID, if there is one.
+// The line whose device an ID fits, if there is one.
 pub(crate) struct Spot {
     pub found: bool,
     pub at: usize,
@@ -34,8 +35,7 @@ pub fn judge_table(text: &[u8]) -> u8
         if line.ok {} else {
             return 15;
         }
-        let twice = seek(&text[stop + 1..], line.device.id);
-        if twice.found {
+        if clash_after(&text[stop + 1..], line.device) {
             return 15;
         }
         at = stop + 1;
@@ -50,7 +50,25 @@ pub fn judge_table(text: &[u8]) -> u8
     0
 }
 
-// The record of an ID, or 15 for a malformed table, or 16 for an ID that is not in it.
+// Whether a line of a text gives a device that clashes with this one.
+fn clash_after(text: &[u8], d: Device) -> bool
+    ensures { λ r. ⌜ r ≡ clashes d (tableLines (now (text .entry))) ⌝ }
+{
+    let mut at = 0;
+    while at < text.len() {
+        let stop = bytes::scan::find(text, at, text.len(), LF);
+        if text.len() <= stop {
+            return false;
+        }
+        if line_clashes(&text[at..stop], d) {
+            return true;
+        }
+        at = stop + 1;
+    }
+    false
+}
+
+// The record that an ID fits, or 15 for a malformed table, or 16 for an ID that fits none of it.
 pub fn find_device(text: &[u8], id: u16) -> Found
     ensures { λ r. ⌜ r ≡ foundIn (now (text .entry)) id ⌝ }
 {
@@ -73,18 +91,17 @@ pub fn find_device(text: &[u8], id: u16) -> Found
     refusal(16)
 }
 
-// The first line of a text that gives an ID.
+// The first line of a text whose device an ID fits.
 fn seek(text: &[u8], id: u16) -> Spot
     ensures { λ r. ⌜ Sought id (now (text .entry)) (r .found) (r .at) (r .stop) ⌝ }
 {
-    let wanted = id as u32;
     let mut at = 0;
     while at < text.len() {
         let stop = bytes::scan::find(text, at, text.len(), LF);
         if text.len() <= stop {
             return NOT_FOUND;
         }
-        if line_id(&text[at..stop]) == wanted {
+        if line_fits(&text[at..stop], id) {
             return Spot {
                 found: true,
                 at,

@@ -17,9 +17,11 @@ use Rattle.words.specs.LawsWord.{words-long, words-each, words-of}
 use Rattle.device.specs.declared.Device.{Device}
 use Rattle.device.specs.Record.{deviceUpTo}
 use Rattle.device.specs.Memory.{cellsTail, readingTail, readingOk}
+use Rattle.device.specs.LawsId.{withId, with-id}
 use Rattle.sheet.specs.declared.Written.{Written}
-use Rattle.sheet.specs.Sheet.{sheetText, sheetLength, written, writtenText}
-use Rattle.sheet.specs.LawsSheet.{length-sheet}
+use Rattle.sheet.specs.Sheet.{sheetWith, sheetText, sheetLength, written, writtenText}
+use Rattle.sheet.specs.LawsSheet.{length-with, length-sheet}
+use Rattle.sheet.specs.LawsWrite.{with-text}
 use Rattle.target.specs.declared.Ran.{Ran}
 use Rattle.target.specs.Chip.{chipOf}
 use Rattle.target.specs.Model.{Run}
@@ -158,9 +160,9 @@ module _ (d : Device) (reading : List ℕ) (ok : readingOk (d .words) reading �
   cells′-sound : soundCells (chipOf d) cells′ ≡ true
   cells′-sound = ap (soundCells (chipOf d)) (g .cells-left) ∙ ran-sound d stream mostSteps cells (replicate mostSteps 0) (cells-sound d reading ok cells k)
 
-  pub run-stopped : (a .number ≡ 0 → ⊥) → refusedText (a .number) (a .steps + 1) 1 ≡ playedText d (played d reading stream)
+  pub run-stopped : (id : ℕ) → (a .number ≡ 0 → ⊥) → refusedText (a .number) (a .steps + 1) 1 ≡ playedText id d (played d reading stream)
   unfolding playedText
-  run-stopped n = rw (number-is, steps-are) (sym (pick-false (eqb (played d reading stream .number) 0) _ _ (ne-eqb (played d reading stream .number) 0 (λ z. n (number-is ∙ z)))))
+  run-stopped id n = rw (number-is, steps-are) (sym (pick-false (eqb (played d reading stream .number) 0) _ _ (ne-eqb (played d reading stream .number) 0 (λ z. n (number-is ∙ z)))))
 
   -- the cells stand at the front of a longer list
   module _ (rest : List ℕ) where
@@ -179,10 +181,10 @@ module _ (d : Device) (reading : List ℕ) (ok : readingOk (d .words) reading �
     pub run-sound : soundCells (chipOf d) (take (d .words + cellsTail) (cells′ ++ rest)) ≡ true
     run-sound = ap (soundCells (chipOf d)) front ∙ cells′-sound
 
-    pub run-whole : a .number ≡ 0 → sheetText d (take (d .words + readingTail) (take (d .words + cellsTail) (cells′ ++ rest))) ≡ playedText d (played d reading stream)
+    pub run-whole : (id : ℕ) → a .number ≡ 0 → sheetWith id d (take (d .words + readingTail) (take (d .words + cellsTail) (cells′ ++ rest))) ≡ playedText id d (played d reading stream)
     unfolding playedText
-    run-whole z =
-        ap (λ l. sheetText d (take (d .words + readingTail) l)) (front ∙ (g .cells-left ∙ ap (λ x. x .target .cells) ran-is))
+    run-whole id z =
+        ap (λ l. sheetWith id d (take (d .words + readingTail) l)) (front ∙ (g .cells-left ∙ ap (λ x. x .target .cells) ran-is))
         ∙ sym (pick-true (eqb (played d reading stream .number) 0) _ _ (eq-eqb (played d reading stream .number) 0 (sym number-is ∙ z)))
 
 -- ---- the sheet
@@ -197,26 +199,31 @@ module _ (d : Device) (served : deviceUpTo mostProgram d ≡ true) (cells : List
       words-of (d .words + readingTail) (take (d .words + readingTail) cells) (length-take-le (d .words + readingTail) cells sheet-part)
       (λ i h. let s : getD cells i 0 < 0x4000 = (unfold soundCells in words-each (d .words + cellsTail) cells ok i) in rw (getD-take (d .words + readingTail) cells i 0 h) s)
 
-  module _ (text : List ℕ) (long : length text ≡ 46135) (w : Written) (e : w ≡ written d (take (d .words + readingTail) cells) text) where
-    sheet-is : written d (take (d .words + readingTail) cells) text ≡ record { number = 0; length = sheetLength d }
+  -- written under the record with line 1's ID
+  module _ (id : ℕ) (small : id < 0x4000) (text : List ℕ) (long : length text ≡ 46135) (w : Written) (e : w ≡ written (withId d id) (take (d .words + readingTail) cells) text) where
+    own : deviceUpTo mostProgram (withId d id) ≡ true
+    own = with-id d id mostProgram served small
+
+    sheet-is : written (withId d id) (take (d .words + readingTail) cells) text ≡ record { number = 0; length = sheetLength (withId d id) }
     unfolding written pick
     sheet-is =
-        let fits : sheetLength d ≤ length text = let m : sheetLength d ≤ 46135 = served-sheet d served in omega arith in
-        rw (served-sound d served, front-sound, le-leb (sheetLength d) (length text) fits)
+        let room : sheetLength (withId d id) ≤ length text = let m : sheetLength (withId d id) ≤ 46135 = served-sheet (withId d id) own in omega arith in
+        rw (served-sound (withId d id) own, front-sound, le-leb (sheetLength (withId d id)) (length text) room)
 
-    pub sheet-long : w .length ≡ sheetLength d
+    pub sheet-long : w .length ≡ sheetLength (withId d id)
     sheet-long = ap (λ x. x .length) (e ∙ sheet-is)
 
     pub sheet-short : w .length ≤ 46135
-    sheet-short = let m : sheetLength d ≤ 46135 = served-sheet d served in let l : w .length ≡ sheetLength d = sheet-long in omega arith
+    sheet-short = let m : sheetLength (withId d id) ≤ 46135 = served-sheet (withId d id) own in let l : w .length ≡ sheetLength (withId d id) = sheet-long in omega arith
 
-    pub sheet-front : (text′ : List ℕ) → text′ ≡ writtenText d (take (d .words + readingTail) cells) text → take (w .length) text′ ≡ sheetText d (take (d .words + readingTail) cells)
+    pub sheet-front : (text′ : List ℕ) → text′ ≡ writtenText (withId d id) (take (d .words + readingTail) cells) text → take (w .length) text′ ≡ sheetWith id d (take (d .words + readingTail) cells)
     unfolding writtenText
     sheet-front text′ f =
-        ap (take (w .length)) (f ∙ pick-true (eqb (written d (take (d .words + readingTail) cells) text .number) 0) _ _ (eq-eqb _ 0 (ap (λ x. x .number) sheet-is)))
-        ∙ front-is text (sheetText d (take (d .words + readingTail) cells)) (w .length) (sheet-long ∙ sym (length-sheet d (take (d .words + readingTail) cells)))
+        ap (take (w .length)) (f ∙ pick-true (eqb (written (withId d id) (take (d .words + readingTail) cells) text .number) 0) _ _ (eq-eqb _ 0 (ap (λ x. x .number) sheet-is)))
+        ∙ (front-is text (sheetText (withId d id) (take (d .words + readingTail) cells)) (w .length) (sheet-long ∙ sym (length-sheet (withId d id) (take (d .words + readingTail) cells)))
         (let m : w .length ≤ 46135 = sheet-short in omega arith)
+        ∙ with-text d id (take (d .words + readingTail) cells))
 
-pub played-short : (d : Device) → deviceUpTo mostProgram d ≡ true → (r : Run Target) → length (playedText d r) ≤ 46135
+pub played-short : (id : ℕ) (d : Device) → deviceUpTo mostProgram d ≡ true → (r : Run Target) → length (playedText id d r) ≤ 46135
 unfolding playedText
-played-short d served r = either-short 46135 (omega arith) (r .number) (r .done + 1) 1 _ (λ z. rw (length-sheet d (take (d .words + readingTail) (r .target .cells))) (served-sheet d served))
+played-short id d served r = either-short 46135 (omega arith) (r .number) (r .done + 1) 1 _ (λ z. rw (length-with id d (take (d .words + readingTail) (r .target .cells))) (served-sheet d served))

@@ -12,6 +12,8 @@ use Rattle.words.specs.LawsChoice.{pick-true, pick-false}
 use Rattle.device.specs.declared.Device.{Device}
 use Rattle.device.specs.Memory.{readingTail}
 use Rattle.device.specs.Record.{deviceUpTo}
+use Rattle.sheet.specs.Sheet.{firstLine}
+use Rattle.sheet.specs.declared.Line1.{Line1}
 use Rattle.print.specs.Print.{refusedText}
 use Rattle.print.specs.LawsLines.{refused-short, either-short}
 use Rattle.board.specs.Open.{mostProgram, recordOf, boardNumber, boardReading}
@@ -35,13 +37,13 @@ module _ (table sheet stream : List ℕ) (number : ℕ) (e : number ≡ boardNum
         ∙ (sym (pick-false (eqb (badLine stream) 0) _ _ (ne-eqb (badLine stream) 0 (λ y. n (read .line-is ∙ y))))
         ∙ board-text table sheet number e _ (refusedText (boardNumber table sheet) 0 0) z)
 
-    pub trial-run : line ≡ 0 → length stream₀ ≡ 98304 → (d : Device) (reading : List ℕ) → Board table sheet d reading
-        → playedText d (played d (take (d .words + readingTail) reading) (take (3 * steps) bytes)) ≡ trialText table sheet stream
+    pub trial-run : line ≡ 0 → length stream₀ ≡ 98304 → (d : Device) (reading : List ℕ) → Board table sheet d reading → (first : Line1) → first ≡ firstLine sheet
+        → playedText (first .id) d (played d (take (d .words + readingTail) reading) (take (3 * steps) bytes)) ≡ trialText table sheet stream
     unfolding trialText
-    trial-run y long d reading b =
-        ap (λ l. playedText d (played d (take (d .words + readingTail) reading) l)) front
-        ∙ (ap (λ l. playedText d (played d l (streamOf stream))) (b .front)
-        ∙ (ap (λ x. playedText x (played x (boardReading table sheet) (streamOf stream))) (b .record-is)
+    trial-run y long d reading b first f =
+        (λ i. playedText (f i .id) d (played d (take (d .words + readingTail) reading) (front i)))
+        ∙ (ap (λ l. playedText (firstLine sheet .id) d (played d l (streamOf stream))) (b .front)
+        ∙ (ap (λ x. playedText (firstLine sheet .id) x (played x (boardReading table sheet) (streamOf stream))) (b .record-is)
         ∙ (sym (pick-true (eqb (badLine stream) 0) _ _ (eq-eqb (badLine stream) 0 (sym (read .line-is) ∙ y)))
         ∙ board-text table sheet number e _ (refusedText (boardNumber table sheet) 0 0) z)))
       where
@@ -59,6 +61,6 @@ trial-short table sheet stream =
     either-short 46135 (omega arith) (boardNumber table sheet) 0 0 _ (λ z. by (eqb (badLine stream) 0) (board-served table sheet z) (refused-short 34 (badLine stream) 1))
   where
     by : (c : Bool) → deviceUpTo mostProgram (recordOf table sheet) ≡ true → length (refusedText 34 (badLine stream) 1) ≤ 41
-        → length (pick c (playedText (recordOf table sheet) (played (recordOf table sheet) (boardReading table sheet) (streamOf stream))) (refusedText 34 (badLine stream) 1)) ≤ 46135
-    by true served s = unfold pick in played-short (recordOf table sheet) served _
+        → length (pick c (playedText (firstLine sheet .id) (recordOf table sheet) (played (recordOf table sheet) (boardReading table sheet) (streamOf stream))) (refusedText 34 (badLine stream) 1)) ≤ 46135
+    by true served s = unfold pick in played-short (firstLine sheet .id) (recordOf table sheet) served _
     by false served s = unfold pick in omega arith

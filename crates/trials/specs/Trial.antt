@@ -10,7 +10,7 @@ use Rattle.numerals.specs.Text.{tab, lf, split}
 use Rattle.numerals.specs.Hex.{capitalOf, byteBy, wordBy}
 use Rattle.device.specs.declared.Device.{Device}
 use Rattle.device.specs.Memory.{readingTail}
-use Rattle.sheet.specs.Sheet.{sheetText}
+use Rattle.sheet.specs.Sheet.{sheetWith, firstLine}
 use Rattle.target.specs.Model.{Run}
 use Rattle.target.specs.Step.{Target}
 use Rattle.target.specs.Run.{ran}
@@ -60,15 +60,15 @@ cellsOf reading = reading ++ erased ∷ erased ∷ []
 unfoldable pub played : Device → (reading stream : List ℕ) → Run Target
 played d reading stream = ran d stream mostSteps (cellsOf reading) (replicate mostSteps 0)
 
--- the sheet after the run, or the refused step's number at its line; column 1, since the whole line is to blame
-unfoldable pub playedText : Device → Run Target → List ℕ
-playedText d r =
+-- the sheet after the run with this ID on line 1, or the refused step's number at its line; column 1, since the whole line is to blame
+unfoldable pub playedText : (id : ℕ) → Device → Run Target → List ℕ
+playedText id d r =
     unless (eqb (r .number) 0) (refusedText (r .number) (r .done + 1) 1)
-    (sheetText d (take (d .words + readingTail) (r .target .cells)))
+    (sheetWith id d (take (d .words + readingTail) (r .target .cells)))
 
--- the board, then the printed stream, 34 at its line, of which the whole is to blame too, then the run
+-- the board, then the printed stream, 34 at its line, of which the whole is to blame too, then the run; line 1 stays the board's
 unfoldable pub trialText : (table sheet stream : List ℕ) → List ℕ
 trialText table sheet stream =
     unless (eqb (boardNumber table sheet) 0) (refusedText (boardNumber table sheet) 0 0)
     (unless (eqb (badLine stream) 0) (refusedText 34 (badLine stream) 1)
-    (playedText (recordOf table sheet) (played (recordOf table sheet) (boardReading table sheet) (streamOf stream))))
+    (playedText (firstLine sheet .id) (recordOf table sheet) (played (recordOf table sheet) (boardReading table sheet) (streamOf stream))))

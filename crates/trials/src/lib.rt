@@ -24,5 +24,6 @@ pub fn trial(table: &[u8], sheet: &[u8], stream: &[u8], out: &mut [u8]) -> usize
     let device = opened.device;
     let count = (device.words as usize) + READING_TAIL;
     let length = 3 * read.steps;
-    played::put_run(device, &reading[..count], &bytes[..length], out)
+    let first = sheet::read_id(sheet);
+    played::put_run(device, first.id, &reading[..count], &bytes[..length], out)
 }

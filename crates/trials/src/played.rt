@@ -7,12 +7,12 @@ use device::READING_TAIL;
 use words::ERASED;
 ghost use mathlib.Core.Path.{_≡_};
 ghost use mathlib.Core.Bool.{true};
-ghost use Prim.Native.Nat.{_+_, _≤_};
+ghost use Prim.Native.Nat.{_+_, _≤_, _<_};
 ghost use lib.ListN.{length, take};
 ghost use lib.Seq.{sets};
 ghost use Rattle.device.specs.Record.{deviceUpTo};
 ghost use Rattle.device.specs.Memory.{readingTail, readingOk};
-ghost use Rattle.sheet.specs.Sheet.{sheetText};
+ghost use Rattle.sheet.specs.Sheet.{sheetWith};
 ghost use Rattle.target.specs.Chip.{chipOf};
 ghost use Rattle.target.specs.Step.{soundCells};
 ghost use Rattle.print.specs.Print.{Prints};
@@ -25,10 +25,10 @@ const MOST_CELLS: usize = (MOST_PROGRAM as usize) + CELLS_TAIL;
 // The length of the longest sheet.
 const MOST_SHEET: usize = 46135;
 
-// The text of a run on the cells of a reading, whose calibration words are erased.
-pub(crate) fn put_run(d: Device, reading: &[u16], stream: &[u8], out: &mut [u8]) -> usize
-    requires { ⌜ (deviceUpTo mostProgram d ≡ true) × (readingOk (d .words) (now reading) ≡ true) ⌝ }
-    ensures { λ r. ⌜ Prints (playedText d (played d (now (reading .entry)) (now (stream .entry)))) (now (out .entry)) r (now (out .exit)) ⌝ }
+// The text of a run on the cells of a reading, whose calibration words are erased, with this ID on line 1.
+pub(crate) fn put_run(d: Device, id: u16, reading: &[u16], stream: &[u8], out: &mut [u8]) -> usize
+    requires { ⌜ (deviceUpTo mostProgram d ≡ true) × (readingOk (d .words) (now reading) ≡ true) × (id < 0x4000) ⌝ }
+    ensures { λ r. ⌜ Prints (playedText id d (played d (now (reading .entry)) (now (stream .entry)))) (now (out .entry)) r (now (out .exit)) ⌝ }
 {
     let mut cells = [ERASED; MOST_CELLS];
     copy(reading, &mut cells);
@@ -44,7 +44,7 @@ pub(crate) fn put_run(d: Device, reading: &[u16], stream: &[u8], out: &mut [u8])
     if ran.number != 0 {
         return print::refusal(out, ran.number, (ran.steps + 1) as u32, 1);
     }
-    put_sheet(d, &cells[..count], out)
+    put_sheet(d, id, &cells[..count], out)
 }
 
 // Copies words to the start of others.
@@ -59,14 +59,22 @@ fn copy(from: &[u16], to: &mut [u16])
     }
 }
 
-// The sheet of a target's cells.
-fn put_sheet(d: Device, cells: &[u16], out: &mut [u8]) -> usize
-    requires { ⌜ (deviceUpTo mostProgram d ≡ true) × (soundCells (chipOf d) (now cells) ≡ true) ⌝ }
-    ensures { λ r. ⌜ Prints (sheetText d (take (d .words + readingTail) (now (cells .entry)))) (now (out .entry)) r (now (out .exit)) ⌝ }
+// The sheet of a target's cells with this ID on line 1.
+fn put_sheet(d: Device, id: u16, cells: &[u16], out: &mut [u8]) -> usize
+    requires { ⌜ (deviceUpTo mostProgram d ≡ true) × (soundCells (chipOf d) (now cells) ≡ true) × (id < 0x4000) ⌝ }
+    ensures { λ r. ⌜ Prints (sheetWith id d (take (d .words + readingTail) (now (cells .entry)))) (now (out .entry)) r (now (out .exit)) ⌝ }
 {
     let count = (d.words as usize) + READING_TAIL;
     let mut sheet = [0u8; MOST_SHEET];
-    let written = sheet::write_sheet(d, &cells[..count], &mut sheet);
+    let named = Device {
+        id,
+        words: d.words,
+        row: d.row,
+        mask1: d.mask1,
+        mask2: d.mask2,
+        idmask: d.idmask,
+    };
+    let written = sheet::write_sheet(named, &cells[..count], &mut sheet);
     let length = written.length;
     print::text(out, &sheet[..length])
 }

@@ -13,7 +13,7 @@ use Rattle.words.specs.LawsTests.{by-lt, by-eq}
 
 -- ---- bits are 0 or 1
 
-bit-lt : (w i : ℕ) → bit w i < 2
+pub bit-lt : (w i : ℕ) → bit w i < 2
 unfolding bit
 bit-lt w i = mod-lt (w / 2 ^ i) (zero-lt-suc 1)
 
@@ -28,7 +28,7 @@ differ-lt zero b p q = q
 differ-lt (suc a) zero p q = p
 differ-lt (suc a) (suc b) p q = differ-lt a b (omega arith) (omega arith)
 
-bit-or : (a b i : ℕ) → bit (bitOr a b) i ≡ max (bit a i) (bit b i)
+pub bit-or : (a b i : ℕ) → bit (bitOr a b) i ≡ max (bit a i) (bit b i)
 bit-or a b i = opened ∙ digits-mod (bitOr (a / 2 ^ i / 2) (b / 2 ^ i / 2)) (max-lt (bit a i) (bit b i) (bit-lt a i) (bit-lt b i))
   where
     opened : bit (bitOr a b) i ≡ (bitOr (a / 2 ^ i / 2) (b / 2 ^ i / 2) * 2 + max (bit a i) (bit b i)) % 2

@@ -17,7 +17,7 @@ use Rattle.target.specs.declared.Order.the-variants.{LoadData, Increment, Begin
 
 -- TINY
 abbrev pub tiny : Device
-tiny = record { id = 0x2a00; words = 16; row = 8; mask1 = 0x3eff; mask2 = 0x3ff3 }
+tiny = record { id = 0x2a00; words = 16; row = 8; mask1 = 0x3eff; mask2 = 0x3ff3; idmask = 0x3fff }
 
 -- a blank TINY board: every word 3FFFh but 8005h and 8006h
 abbrev pub blankTiny : List ℕ

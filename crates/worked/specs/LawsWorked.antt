@@ -7,7 +7,7 @@ use Rattle.words.specs.Lists.{build, inRange, every}
 use Rattle.numerals.specs.Text.{split, inFront}
 use Rattle.numerals.specs.Hex.{within, digitOf, joined, byteBy}
 use Rattle.words.specs.Address.{placed, halved, entryOf, successor}
-use Rattle.device.specs.Record.{rowOk, wordsUpTo, deviceUpTo, deviceOk, idFits}
+use Rattle.device.specs.Record.{rowOk, wordsUpTo, deviceUpTo, deviceOk, fits}
 use Rattle.device.specs.Memory
 use Rattle.lines.specs.Lines.{withoutCr, allWithoutCr, linesOf}
 use Rattle.hexread.specs.Line.{byteAt, countOf, offsetOf, typeOf, isRecord, bytesTo, sumOk, typeOk, shapeOk, dataOk, lineNumber}
@@ -55,7 +55,7 @@ unfolding blankSum pick bit Memory.zeroBit Memory.protected sumTo configSum nibb
 blank-sum = refl
 
 one-row : oneRow ≡ true
-unfolding oneRow takes pick without spare underMask Memory.maskAt isWord bit every wordsOf rowOk wordsUpTo deviceUpTo deviceOk idFits Memory.isConfig
+unfolding oneRow takes pick without spare underMask Memory.maskAt isWord bit every wordsOf rowOk wordsUpTo deviceUpTo deviceOk fits Memory.isConfig
     Memory.zeroBit Memory.programmable Memory.entryOk Memory.imageOk Memory.readingOk Memory.protected onlyClears configOk updateNumber known wanted
     differs some rowDiffers idDiffers configWrites inRange walk loads setSteps erasing rowSteps rowsFrom wordSteps writesFrom configSteps bodyOf
     taskOf updateTask updateSteps

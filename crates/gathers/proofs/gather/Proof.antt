@@ -2,6 +2,7 @@
 use mathlib.Core.Path.{sym, _∙_}
 use native.Mathlib.Omega.{arith}
 use Rattle.print.specs.LawsPrint.{prints-as, printed}
+use Rattle.sheet.specs.LawsRead.{first-small}
 use Rattle.board.specs.LawsOpen.{opened-serves, opened-most}
 use Rattle.gathers.specs.LawsGather.{gather-refused, gather-21, gather-found, gather-short}
 use borrow.Author.Needs.{needs}
@@ -44,23 +45,22 @@ returns-2 c = printed _ (gather-short _ _ _) (prints-as _ _ _ _ _ (gather-21 _ _
     (c .before .before .before .before .before .before .before .before .before .before .open-record .ensures .1) (sym
     (c .before .before .before .before .before .lines-ok .ensures) ∙ c .before .before .before .before .if2 .left)) (c .before .before .refusal2 .ensures))
 
+read-id-requires : tie.Need-read-id-requires
+read-id-requires c κs = search needs
+
 put-sheet-requires : tie.Need-put-sheet-requires
 put-sheet-requires c κs = (
-  opened-serves _ _ _ (c .before .before .before .before .before .before .before .open-record .ensures .0)
-      (c .before .before .before .before .before .if1 .left) _ (c .before .before .before .before .before .before .before .open-record .ensures .1),
-  sym
-      (c .before .before .lines-ok .ensures) ∙ c .before .if2 .taken,
+  opened-serves _ _ _ (c .before .before .before .before .before .before .before .before .open-record .ensures .0) (c .before .before .before .before .before .before .if1 .left) _ (c .before .before .before .before .before .before .before .before .open-record .ensures .1),
+  sym (c .before .before .before .lines-ok .ensures) ∙ c .before .before .if2 .taken,
+  first-small _ _ (c .before .read-id .ensures),
 )
 
 same-length-3 : tie.Need-same-length-3
 same-length-3 c = search needs
 
 returns-3 : tie.Need-returns-3
-returns-3 c = printed _ (gather-short _ _ _) (prints-as _ _ _ _ _ (gather-found _ _ _ _
-    (c .before .before .before .before .before .before .before .before .before .before .open-record .ensures .0)
-    (c .before .before .before .before .before .before .before .before .if1 .left) _
-    (c .before .before .before .before .before .before .before .before .before .before .open-record .ensures .1) (sym
-    (c .before .before .before .before .before .lines-ok .ensures) ∙ c .before .before .before .before .if2 .taken)) (c .before .before .put-sheet .ensures))
+returns-3 c = printed _ (gather-short _ _ _) (prints-as _ _ _ _ _ (gather-found _ _ _ _ (c .before .before .before .before .before .before .before .before .before .before .before .open-record .ensures .0) (c .before .before .before .before .before .before .before .before .before .if1 .left) _ (c .before .before .before .before .before .before .before .before .before .before .before .open-record .ensures .1)
+    (sym (c .before .before .before .before .before .before .lines-ok .ensures) ∙ c .before .before .before .before .before .if2 .taken) _ (c .before .before .before .before .read-id .ensures)) (c .before .before .put-sheet .ensures))
 
 pub gather-spec : {M : Type 1} → statement M
 gather-spec =
@@ -75,6 +75,7 @@ gather-spec =
     refusal-requires-2
     same-length-2
     returns-2
+    read-id-requires
     put-sheet-requires
     same-length-3
     returns-3)

@@ -4,6 +4,7 @@ use mathlib.Core.Path.{sym}
 use lib.ListN.{length-replicate}
 use lib.Seq.{length-take-le}
 use Rattle.print.specs.LawsPrint.{prints-as, printed}
+use Rattle.sheet.specs.LawsRead.{first-small}
 use Rattle.board.specs.LawsBoard.{board-opened}
 use Rattle.trials.specs.LawsTrial.{trial-refused, trial-34, trial-run, trial-short}
 use borrow.Author.Needs.{needs}
@@ -50,17 +51,20 @@ add-count c = search needs
 mul-length : tie.Need-mul-length
 mul-length c = search needs
 
-array-share-prefix-reading : tie.Need-array-share-prefix-reading
-array-share-prefix-reading c = (board-opened _ _ _ (c .before .before .before .before .before .before .before .before .before .before .open-board .ensures .0)
-    (c .before .before .before .before .before .before .before .before .if1 .left) _
-    (c .before .before .before .before .before .before .before .before .before .before .open-board .ensures .1) _
-    (c .before .before .before .before .before .before .before .before .before .before .open-board .ensures .2)) .within
+read-id-requires : tie.Need-read-id-requires
+read-id-requires c κs = search needs
 
-slice-aggregate-put-run : tie.Need-slice-aggregate-put-run
-slice-aggregate-put-run c = sym ((board-opened _ _ _ (c .before .before .before .before .before .before .before .before .before .before .before .open-board .ensures .0)
+array-share-prefix-reading : tie.Need-array-share-prefix-reading
+array-share-prefix-reading c = (board-opened _ _ _ (c .before .before .before .before .before .before .before .before .before .before .before .open-board .ensures .0)
     (c .before .before .before .before .before .before .before .before .before .if1 .left) _
     (c .before .before .before .before .before .before .before .before .before .before .before .open-board .ensures .1) _
-    (c .before .before .before .before .before .before .before .before .before .before .before .open-board .ensures .2)) .long)
+    (c .before .before .before .before .before .before .before .before .before .before .before .open-board .ensures .2)) .within
+
+slice-aggregate-put-run : tie.Need-slice-aggregate-put-run
+slice-aggregate-put-run c = sym ((board-opened _ _ _ (c .before .before .before .before .before .before .before .before .before .before .before .before .open-board .ensures .0)
+    (c .before .before .before .before .before .before .before .before .before .before .if1 .left) _
+    (c .before .before .before .before .before .before .before .before .before .before .before .before .open-board .ensures .1) _
+    (c .before .before .before .before .before .before .before .before .before .before .before .before .open-board .ensures .2)) .long)
 
 array-share-prefix-bytes : tie.Need-array-share-prefix-bytes
 array-share-prefix-bytes c = search needs
@@ -69,32 +73,20 @@ slice-aggregate-put-run-2 : tie.Need-slice-aggregate-put-run-2
 slice-aggregate-put-run-2 c = sym (length-take-le _ _ (array-share-prefix-bytes (c .before)))
 
 put-run-requires : tie.Need-put-run-requires
-put-run-requires c κs = (
-  (board-opened _ _ _ (c .before .before .before .before .before .before .before .before .before .before .before .before .before .open-board .ensures .0)
-      (c .before .before .before .before .before .before .before .before .before .before .before .if1 .left) _
-      (c .before .before .before .before .before .before .before .before .before .before .before .before .before .open-board .ensures .1) _
-      (c .before .before .before .before .before .before .before .before .before .before .before .before .before .open-board .ensures .2)) .served,
-  (board-opened _ _ _
-      (c .before .before .before .before .before .before .before .before .before .before .before .before .before .open-board .ensures .0)
-      (c .before .before .before .before .before .before .before .before .before .before .before .if1 .left) _
-      (c .before .before .before .before .before .before .before .before .before .before .before .before .before .open-board .ensures .1) _
-      (c .before .before .before .before .before .before .before .before .before .before .before .before .before .open-board .ensures .2)) .good,
-)
+put-run-requires c κs =
+    let o = c .before .before .before .before .before .before .before .before .before .before .before .before .before .before .open-board .ensures in
+    let b = board-opened _ _ _ (o .0) (c .before .before .before .before .before .before .before .before .before .before .before .before .if1 .left) _ (o .1) _ (o .2) in
+    (b .served, b .good, first-small _ _ (c .before .before .before .read-id .ensures))
 
 same-length-3 : tie.Need-same-length-3
 same-length-3 c = search needs
 
 returns-3 : tie.Need-returns-3
-returns-3 c = printed _ (trial-short _ _ _) (prints-as _ _ _ _ _
-    (trial-run _ _ _ _ (c .before .before .before .before .before .before .before .before .before .before .before .before .before .before .before .before .open-board .ensures .0)
-    (c .before .before .before .before .before .before .before .before .before .before .before .before .before .before .if1 .left) _ _ _ _
-    (c .before .before .before .before .before .before .before .before .before .before .before .before .read-stream .ensures)
-    (c .before .before .before .before .before .before .before .before .before .if2 .left) (length-replicate {A = ℕ} 98304 0) _ _ (board-opened _ _ _
-    (c .before .before .before .before .before .before .before .before .before .before .before .before .before .before .before .before .open-board .ensures .0)
-    (c .before .before .before .before .before .before .before .before .before .before .before .before .before .before .if1 .left) _
-    (c .before .before .before .before .before .before .before .before .before .before .before .before .before .before .before .before .open-board .ensures .1) _
-    (c .before .before .before .before .before .before .before .before .before .before .before .before .before .before .before .before .open-board .ensures .2)))
-    (c .before .before .put-run .ensures))
+returns-3 c =
+    let o = c .before .before .before .before .before .before .before .before .before .before .before .before .before .before .before .before .before .open-board .ensures in
+    printed _ (trial-short _ _ _) (prints-as _ _ _ _ _
+    (trial-run _ _ _ _ (o .0) (c .before .before .before .before .before .before .before .before .before .before .before .before .before .before .before .if1 .left) _ _ _ _ (c .before .before .before .before .before .before .before .before .before .before .before .before .before .read-stream .ensures) (c .before .before .before .before .before .before .before .before .before .before .if2 .left) (length-replicate {A = ℕ} 98304 0) _ _
+    (board-opened _ _ _ (o .0) (c .before .before .before .before .before .before .before .before .before .before .before .before .before .before .before .if1 .left) _ (o .1) _ (o .2)) _ (c .before .before .before .before .before .before .read-id .ensures)) (c .before .before .put-run .ensures))
 
 pub trial-spec : {M : Type 1} → statement M
 trial-spec =
@@ -112,6 +104,7 @@ trial-spec =
     cast-count
     add-count
     mul-length
+    read-id-requires
     array-share-prefix-reading
     slice-aggregate-put-run
     array-share-prefix-bytes

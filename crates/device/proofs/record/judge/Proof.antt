@@ -29,16 +29,16 @@ returns-5 : tie.Need-returns-5
 returns-5 c = judged-bad _ (λ r. omega arith)
 
 returns-6 : tie.Need-returns-6
-unfolding bit
-returns-6 c = judged-bad _ (λ r. c .if6 .taken (r .cp-bit))
+returns-6 c = judged-bad _ (λ r. omega arith)
 
 returns-7 : tie.Need-returns-7
 unfolding bit
-returns-7 c = judged-all _ (sym (c .before .before .before .before .before .before .before .before .before .before .before .row-ok .ensures)
-    ∙ c .before .before .before .before .before .before .before .before .before .before .if1 .taken)
-    (sym (c .before .before .before .before .before .before .before .before .before .words-ok .ensures)
-    ∙ c .before .before .before .before .before .before .before .before .if2 .taken) (c .before .before .before .before .before .before .if3 .left)
-    (c .before .before .before .before .if4 .left) (c .before .before .if5 .left) (c .if6 .left)
+returns-7 c = judged-bad _ (λ r. c .if7 .taken (r .cp-bit))
+
+returns-8 : tie.Need-returns-8
+unfolding bit
+returns-8 c = judged-all _ (sym (c .before .before .before .before .before .before .before .before .before .before .before .before .before .row-ok .ensures) ∙ c .before .before .before .before .before .before .before .before .before .before .before .before .if1 .taken) (sym (c .before .before .before .before .before .before .before .before .before .before .before .words-ok .ensures) ∙ c .before .before .before .before .before .before .before .before .before .before .if2 .taken)
+    (c .before .before .before .before .before .before .before .before .if3 .left) (c .before .before .before .before .before .before .if4 .left) (c .before .before .before .before .if5 .left) (c .before .before .if6 .left) (c .if7 .left)
 
 pub judge-spec : {M : Type 1} → statement M
 judge-spec =
@@ -52,4 +52,5 @@ judge-spec =
     returns-4
     returns-5
     returns-6
-    returns-7)
+    returns-7
+    returns-8)

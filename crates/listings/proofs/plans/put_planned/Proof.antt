@@ -18,7 +18,7 @@ put-left-requires : tie.Need-put-left-requires
 put-left-requires c κs =
     let p = c .before .before .before .before .before .before .before .before .pre in
     let r = plan-ready _ _ (plan-few _ _ (p .0) _ _) _ _ (c .before .before .before .ask-planner .ensures) in
-    (p .0, p .1, r .number-is)
+    (p .0, p .1, r .number-is, p .2)
 
 same-length : tie.Need-same-length
 same-length c = search needs
@@ -27,7 +27,7 @@ returns : tie.Need-returns
 returns c =
     let p = c .before .before .before .before .before .before .before .before .before .before .before .pre in
     let r = plan-ready _ _ (plan-few _ _ (p .0) _ _) _ _ (c .before .before .before .before .before .before .ask-planner .ensures) in
-    prints-as _ _ _ _ _ (end-left _ _ _ _ _ (c .before .before .before .before .if1 .taken) _ (r .number-is)) (c .before .before .put-left .ensures)
+    prints-as _ _ _ _ _ (end-left _ _ _ _ _ _ (c .before .before .before .before .if1 .taken) _ (r .number-is)) (c .before .before .put-left .ensures)
 
 slice-aggregate-put-plan : tie.Need-slice-aggregate-put-plan
 slice-aggregate-put-plan c = search needs
@@ -45,7 +45,7 @@ returns-2 : tie.Need-returns-2
 returns-2 c =
     let p = c .before .before .before .before .before .before .before .before .before .before .before .before .pre in
     let r = plan-ready _ _ (plan-few _ _ (p .0) _ _) _ _ (c .before .before .before .before .before .before .before .ask-planner .ensures) in
-    prints-as _ _ _ _ _ (r .text ∙ end-stream _ _ _ _ _ (c .before .before .before .before .before .if1 .left)) (c .before .before .put-plan .ensures)
+    prints-as _ _ _ _ _ (r .text ∙ end-stream _ _ _ _ _ _ (c .before .before .before .before .before .if1 .left)) (c .before .before .put-plan .ensures)
 
 pub put-planned-spec : {M : Type 1} → statement M
 put-planned-spec =

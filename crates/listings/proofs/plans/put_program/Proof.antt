@@ -1,6 +1,7 @@
 -- The board is refused, or the HEX file, or both are planned for.
 use mathlib.Core.Path.{sym}
 use Rattle.print.specs.LawsPrint.{prints-as}
+use Rattle.sheet.specs.LawsRead.{first-small}
 use Rattle.board.specs.LawsBoard.{board-opened, other-room, other-long}
 use Rattle.listings.specs.LawsPlans.{program-refused, program-long, program-hex, program-within, program-front, program-found}
 use borrow.Author.Needs.{needs}
@@ -72,19 +73,11 @@ returns-3 c =
     let y = c .before .before .before .before .if3 .taken in
     prints-as _ _ _ _ _ (program-hex _ _ _ _ _ _ (o .0) z _ _ b h _ (other-long _ _ _ _ b 0xffff) _ _ r y) (c .before .before .refusal3 .ensures)
 
+read-id-requires : tie.Need-read-id-requires
+read-id-requires c κs = search needs
+
 array-share-prefix-image : tie.Need-array-share-prefix-image
 array-share-prefix-image c =
-    let a = c .before .before .before .before .before .before .before .before .before .before .before .before .before .before .before .before .args in
-    let o = c .before .before .before .before .before .before .before .before .before .before .open-board .ensures in
-    let z = c .before .before .before .before .before .before .before .before .if1 .left in
-    let b = board-opened _ _ _ (o .0) z _ (o .1) _ (o .2) in
-    let h = c .before .before .before .before .before .before .before .if2 .left in
-    let r = c .before .before .before .read-hex .ensures in
-    let y = c .if3 .left in
-    program-within (a .fresh) (a .left) _ _ _ _ (o .0) z _ _ b h _ (other-long _ _ _ _ b 0xffff) _ _ r y _
-
-slice-aggregate-put-planned : tie.Need-slice-aggregate-put-planned
-slice-aggregate-put-planned c =
     let a = c .before .before .before .before .before .before .before .before .before .before .before .before .before .before .before .before .before .args in
     let o = c .before .before .before .before .before .before .before .before .before .before .before .open-board .ensures in
     let z = c .before .before .before .before .before .before .before .before .before .if1 .left in
@@ -92,41 +85,52 @@ slice-aggregate-put-planned c =
     let h = c .before .before .before .before .before .before .before .before .if2 .left in
     let r = c .before .before .before .before .read-hex .ensures in
     let y = c .before .if3 .left in
+    program-within (a .fresh) (a .left) _ _ _ _ (o .0) z _ _ b h _ (other-long _ _ _ _ b 0xffff) _ _ r y _
+
+slice-aggregate-put-planned : tie.Need-slice-aggregate-put-planned
+slice-aggregate-put-planned c =
+    let a = c .before .before .before .before .before .before .before .before .before .before .before .before .before .before .before .before .before .before .args in
+    let o = c .before .before .before .before .before .before .before .before .before .before .before .before .open-board .ensures in
+    let z = c .before .before .before .before .before .before .before .before .before .before .if1 .left in
+    let b = board-opened _ _ _ (o .0) z _ (o .1) _ (o .2) in
+    let h = c .before .before .before .before .before .before .before .before .before .if2 .left in
+    let r = c .before .before .before .before .before .read-hex .ensures in
+    let y = c .before .before .if3 .left in
     sym (program-front (a .fresh) (a .left) _ _ _ _ (o .0) z _ _ b h _ (other-long _ _ _ _ b 0xffff) _ _ r y _)
 
 array-share-prefix-reading : tie.Need-array-share-prefix-reading
 array-share-prefix-reading c =
-    let o = c .before .before .before .before .before .before .before .before .before .before .before .open-board .ensures in
-    let z = c .before .before .before .before .before .before .before .before .before .if1 .left in
+    let o = c .before .before .before .before .before .before .before .before .before .before .before .before .open-board .ensures in
+    let z = c .before .before .before .before .before .before .before .before .before .before .if1 .left in
     let b = board-opened _ _ _ (o .0) z _ (o .1) _ (o .2) in
     b .within
 
 slice-aggregate-put-planned-2 : tie.Need-slice-aggregate-put-planned-2
 slice-aggregate-put-planned-2 c =
-    let o = c .before .before .before .before .before .before .before .before .before .before .before .before .open-board .ensures in
-    let z = c .before .before .before .before .before .before .before .before .before .before .if1 .left in
+    let o = c .before .before .before .before .before .before .before .before .before .before .before .before .before .open-board .ensures in
+    let z = c .before .before .before .before .before .before .before .before .before .before .before .if1 .left in
     let b = board-opened _ _ _ (o .0) z _ (o .1) _ (o .2) in
     sym (b .long)
 
 put-planned-requires : tie.Need-put-planned-requires
 put-planned-requires c κs =
-    let o = c .before .before .before .before .before .before .before .before .before .before .before .before .before .open-board .ensures in
-    let z = c .before .before .before .before .before .before .before .before .before .before .before .if1 .left in
+    let o = c .before .before .before .before .before .before .before .before .before .before .before .before .before .before .open-board .ensures in
+    let z = c .before .before .before .before .before .before .before .before .before .before .before .before .if1 .left in
     let b = board-opened _ _ _ (o .0) z _ (o .1) _ (o .2) in
-    (b .served, b .good)
+    (b .served, b .good, first-small _ _ (c .before .before .before .read-id .ensures))
 
 same-length-4 : tie.Need-same-length-4
 same-length-4 c = search needs
 
 returns-4 : tie.Need-returns-4
 returns-4 c =
-    let o = c .before .before .before .before .before .before .before .before .before .before .before .before .before .before .before .before .open-board .ensures in
-    let z = c .before .before .before .before .before .before .before .before .before .before .before .before .before .before .if1 .left in
+    let o = c .before .before .before .before .before .before .before .before .before .before .before .before .before .before .before .before .before .open-board .ensures in
+    let z = c .before .before .before .before .before .before .before .before .before .before .before .before .before .before .before .if1 .left in
     let b = board-opened _ _ _ (o .0) z _ (o .1) _ (o .2) in
-    let h = c .before .before .before .before .before .before .before .before .before .before .before .before .before .if2 .left in
-    let r = c .before .before .before .before .before .before .before .before .before .read-hex .ensures in
-    let y = c .before .before .before .before .before .before .if3 .left in
-    prints-as _ _ _ _ _ (program-found _ _ _ _ _ _ (o .0) z _ _ b h _ (other-long _ _ _ _ b 0xffff) _ _ r y _) (c .before .before .put-planned .ensures)
+    let h = c .before .before .before .before .before .before .before .before .before .before .before .before .before .before .if2 .left in
+    let r = c .before .before .before .before .before .before .before .before .before .before .read-hex .ensures in
+    let y = c .before .before .before .before .before .before .before .if3 .left in
+    prints-as _ _ _ _ _ (program-found _ _ _ _ _ _ (o .0) z _ _ b h _ (other-long _ _ _ _ b 0xffff) _ _ r y _ _ (c .before .before .before .before .before .before .read-id .ensures)) (c .before .before .put-planned .ensures)
 
 pub put-program-spec : {M : Type 1} → statement M
 put-program-spec =
@@ -147,6 +151,7 @@ put-program-spec =
     refusal-requires-3
     same-length-3
     returns-3
+    read-id-requires
     array-share-prefix-image
     slice-aggregate-put-planned
     array-share-prefix-reading

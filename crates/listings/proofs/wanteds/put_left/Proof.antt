@@ -15,7 +15,7 @@ same-length : tie.Need-same-length
 same-length c = search needs
 
 returns : tie.Need-returns
-returns c = prints-as _ _ _ _ _ (left-refused _ _ _ (c .before .before .before .before .if1 .taken)) (c .before .before .refusal .ensures)
+returns c = prints-as _ _ _ _ _ (left-refused _ _ _ _ (c .before .before .before .before .if1 .taken)) (c .before .before .refusal .ensures)
 
 cast-count : tie.Need-cast-count
 cast-count c = search needs
@@ -51,7 +51,7 @@ put-sheet-requires c κs =
     let p = c .before .before .before .before .before .before .before .before .before .before .pre in
     let z = c .before .before .before .before .before .before .if1 .left in
     let f = c .before .before .before .fill .ensures in
-    (p .0, left-sound _ _ _ _ (p .1) (sym (p .2) ∙ z) _ _ f)
+    (p .0, left-sound _ _ _ _ (p .1) (sym (p .2) ∙ z) _ _ f, p .3)
 
 same-length-2 : tie.Need-same-length-2
 same-length-2 c = search needs
@@ -61,7 +61,7 @@ returns-2 c =
     let p = c .before .before .before .before .before .before .before .before .before .before .before .before .before .pre in
     let z = c .before .before .before .before .before .before .before .before .before .if1 .left in
     let f = c .before .before .before .before .before .before .fill .ensures in
-    prints-as _ _ _ _ _ (left-found _ _ _ _ (p .1) (sym (p .2) ∙ z) _ _ f _ z) (c .before .before .put-sheet .ensures)
+    prints-as _ _ _ _ _ (left-found _ _ _ _ (p .1) (sym (p .2) ∙ z) _ _ f _ _ z) (c .before .before .put-sheet .ensures)
 
 pub put-left-spec : {M : Type 1} → statement M
 put-left-spec =

@@ -16,8 +16,8 @@ is-image-requires c κs = search needs
 returns-2 : tie.Need-returns-2
 returns-2 c = search (fresh-20, needs)
 
-id-fits-requires : tie.Need-id-fits-requires
-id-fits-requires c κs = search needs
+fits-requires : tie.Need-fits-requires
+fits-requires c κs = search needs
 
 returns-3 : tie.Need-returns-3
 returns-3 c = search (fresh-22, needs)
@@ -27,4 +27,4 @@ returns-4 c = search (fresh-0, needs)
 
 pub fresh-refusal-spec : {M : Type 1} → statement M
 fresh-refusal-spec =
-    tie.close (tie.spec judge-requires returns is-image-requires returns-2 id-fits-requires returns-3 returns-4)
+    tie.close (tie.spec judge-requires returns is-image-requires returns-2 fits-requires returns-3 returns-4)

@@ -31,14 +31,14 @@ cast-id c = search needs
 add-id : tie.Need-add-id
 add-id c = search needs
 
-mul-id-fits : tie.Need-mul-id-fits
-mul-id-fits c = search needs
+mul-fits : tie.Need-mul-fits
+mul-fits c = search needs
 
-shared-slice-read-id-fits : tie.Need-shared-slice-read-id-fits
-shared-slice-read-id-fits c = let l = reading-long _ _ (sym (c .before .before .before .is-reading .ensures) ∙ c .before .before .if3 .taken) in omega arith
+shared-slice-read-fits : tie.Need-shared-slice-read-fits
+shared-slice-read-fits c = let l = reading-long _ _ (sym (c .before .before .before .is-reading .ensures) ∙ c .before .before .if3 .taken) in omega arith
 
-id-fits-requires : tie.Need-id-fits-requires
-id-fits-requires c κs = search needs
+fits-requires : tie.Need-fits-requires
+fits-requires c κs = search needs
 
 returns-4 : tie.Need-returns-4
 returns-4 c = search (update-22, needs)
@@ -75,9 +75,9 @@ update-refusal-spec =
     returns-3
     cast-id
     add-id
-    mul-id-fits
-    shared-slice-read-id-fits
-    id-fits-requires
+    mul-fits
+    shared-slice-read-fits
+    fits-requires
     returns-4
     is-protected-requires
     returns-5

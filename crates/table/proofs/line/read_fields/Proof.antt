@@ -5,7 +5,7 @@ use Rattle.table.proofs.line.read_fields.Statement.{statement}
 use Rattle.table.proofs.line.read_fields.Tie as tie
 
 slice-aggregate-name-ok : tie.Need-slice-aggregate-name-ok
-slice-aggregate-name-ok c = name-length _ _ _ _ _ _ (c .before .before .pre)
+slice-aggregate-name-ok c = name-length _ _ _ _ _ _ _ (c .before .before .pre)
 
 name-ok-requires : tie.Need-name-ok-requires
 name-ok-requires c κs = search needs
@@ -14,7 +14,7 @@ no-line-requires : tie.Need-no-line-requires
 no-line-requires c κs = search needs
 
 returns : tie.Need-returns
-returns c = fields-no-name _ _ _ _ _ _ (c .before .before .before .before .before .pre) _ _ _ _ (c .before .before .name-ok .ensures) (c .before .if1 .left) (c .no-line .ensures)
+returns c = fields-no-name _ _ _ _ _ _ _ (c .before .before .before .before .before .pre) _ _ _ _ (c .before .before .name-ok .ensures) (c .before .if1 .left) (c .no-line .ensures)
 
 add-hex-field : tie.Need-add-hex-field
 add-hex-field c = search needs
@@ -94,17 +94,15 @@ part-hex-field-end-3 c = search needs
 hex-field-requires-3 : tie.Need-hex-field-requires-3
 hex-field-requires-3 c κs = search needs
 
+mask-after-requires : tie.Need-mask-after-requires
+mask-after-requires c κs = c .before .before .before .before .before .before .before .before .before .before .before .before .before .before .pre .one
+
 device-of-requires : tie.Need-device-of-requires
 device-of-requires c κs = search needs
 
 returns-2 : tie.Need-returns-2
-returns-2 c = fields-read _ _ _ _ _ _
-    (c .before .before .before .before .before .before .before .before .before .before .before .before .before .before .before .before .pre) _ _ _ _ _ _ _ _
-    (c .before .before .before .before .before .before .before .before .before .before .before .before .before .name-ok .ensures)
-    (c .before .before .before .before .before .before .before .before .before .before .before .before .if1 .taken)
-    (c .before .before .before .before .before .before .before .before .before .before .hex-field .ensures)
-    (c .before .before .before .before .before .before .before .before .read .ensures) (c .before .before .before .before .before .before .read2 .ensures)
-    (c .before .before .before .before .hex-field2 .ensures) (c .before .before .hex-field3 .ensures) (c .before .device-of .ensures)
+returns-2 c = fields-read _ _ _ _ _ _ _ (c .before .before .before .before .before .before .before .before .before .before .before .before .before .before .before .before .before .pre) _ _ _ _ _ _ _ _ _ (c .before .before .before .before .before .before .before .before .before .before .before .before .before .before .name-ok .ensures) (c .before .before .before .before .before .before .before .before .before .before .before .before .before .if1 .taken) (c .before .before .before .before .before .before .before .before .before .before .before .hex-field .ensures) (c .before .before .before .before .before .before .before .before .before .read .ensures) (c .before .before .before .before .before .before .before .read2 .ensures)
+    (c .before .before .before .before .before .hex-field2 .ensures) (c .before .before .before .hex-field3 .ensures) (c .before .before .mask-after .ensures) (c .before .device-of .ensures)
 
 pub read-fields-spec : {M : Type 1} → statement M
 read-fields-spec =
@@ -140,5 +138,6 @@ read-fields-spec =
     part-hex-field-start-3
     part-hex-field-end-3
     hex-field-requires-3
+    mask-after-requires
     device-of-requires
     returns-2)

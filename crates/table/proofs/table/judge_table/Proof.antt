@@ -5,7 +5,7 @@ use native.Mathlib.Omega.{arith}
 use lib.ListN.{length, drop}
 use borrow.Author.Needs.{needs}
 use Rattle.table.specs.Table.{tableOk}
-use Rattle.table.specs.LawsTable.{leftOk, left-all, left-no-end, left-many, left-none, left-some, turn-bad, turn-twice, turn-on, table-bad, table-good}
+use Rattle.table.specs.LawsTable.{leftOk, left-all, left-no-end, left-many, left-none, left-some, turn-bad, turn-clash, turn-on, table-bad, table-good}
 use Rattle.table.proofs.table.judge_table.Statement.{statement}
 use Rattle.table.proofs.table.judge_table.Tie as tie
 
@@ -40,26 +40,23 @@ returns-2 : tie.Need-returns-2 Inv-loop μ-loop
 returns-2 c = table-bad _ (c .before .before .before .before .before .before .loop .inv .2 ∙ turn-bad _ _ _ _ (c .before .before .before .before .find .ensures .0)
     (c .before .before .before .before .before .loop-test .taken) (c .before .before .before .if1 .left) _ _ _ (c .before .read-line .ensures) (c .if2 .left))
 
-add-seek : tie.Need-add-seek Inv-loop μ-loop
-add-seek c = omega arith
+add-clash-after : tie.Need-add-clash-after Inv-loop μ-loop
+add-clash-after c = omega arith
 
-sub-seek : tie.Need-sub-seek Inv-loop μ-loop
-sub-seek c = omega arith
+sub-clash-after : tie.Need-sub-clash-after Inv-loop μ-loop
+sub-clash-after c = omega arith
 
-part-seek-start : tie.Need-part-seek-start Inv-loop μ-loop
-part-seek-start c = omega arith
+part-clash-after-start : tie.Need-part-clash-after-start Inv-loop μ-loop
+part-clash-after-start c = omega arith
 
-part-seek-end : tie.Need-part-seek-end Inv-loop μ-loop
-part-seek-end c = omega arith
+part-clash-after-end : tie.Need-part-clash-after-end Inv-loop μ-loop
+part-clash-after-end c = omega arith
 
-seek-requires : tie.Need-seek-requires Inv-loop μ-loop
-seek-requires c κs = search needs
+clash-after-requires : tie.Need-clash-after-requires Inv-loop μ-loop
+clash-after-requires c κs = search needs
 
 returns-3 : tie.Need-returns-3 Inv-loop μ-loop
-returns-3 c = table-bad _ (c .before .before .before .before .before .before .before .before .before .loop .inv .2 ∙ turn-twice _ _ _ _
-    (c .before .before .before .before .before .before .before .find .ensures .0) (c .before .before .before .before .before .before .before .before .loop-test .taken)
-    (c .before .before .before .before .before .before .if1 .left) _ _ _ (c .before .before .before .before .read-line .ensures)
-    (c .before .before .before .if2 .taken) _ _ _ (c .before .seek .ensures) (c .if3 .taken))
+returns-3 c = table-bad _ (c .before .before .before .before .before .before .before .before .before .loop .inv .2 ∙ turn-clash _ _ _ _ (c .before .before .before .before .before .before .before .find .ensures .0) (c .before .before .before .before .before .before .before .before .loop-test .taken) (c .before .before .before .before .before .before .if1 .left) _ _ _ (c .before .before .before .before .read-line .ensures) (c .before .before .before .if2 .taken) _ (c .before .clash-after .ensures) (c .if3 .taken))
 
 add-at : tie.Need-add-at Inv-loop μ-loop
 add-at c = omega arith
@@ -68,25 +65,13 @@ add-lines : tie.Need-add-lines Inv-loop μ-loop
 add-lines c = omega arith
 
 returns-4 : tie.Need-returns-4 Inv-loop μ-loop
-returns-4 c = table-bad _ (c .before .before .before .before .before .before .before .before .before .before .loop .inv .2 ∙
-    (turn-on _ _ _ _ (c .before .before .before .before .before .before .before .before .find .ensures .0)
-    (c .before .before .before .before .before .before .before .before .before .loop-test .taken)
-    (c .before .before .before .before .before .before .before .if1 .left) _ _ _ (c .before .before .before .before .before .read-line .ensures)
-    (c .before .before .before .before .if2 .taken) _ _ _ (c .before .before .seek .ensures) (c .before .if3 .left) ∙ left-many _ _ (c .if4 .taken)))
+returns-4 c = table-bad _ (c .before .before .before .before .before .before .before .before .before .before .loop .inv .2 ∙ (turn-on _ _ _ _ (c .before .before .before .before .before .before .before .before .find .ensures .0) (c .before .before .before .before .before .before .before .before .before .loop-test .taken) (c .before .before .before .before .before .before .before .if1 .left) _ _ _ (c .before .before .before .before .before .read-line .ensures) (c .before .before .before .before .if2 .taken) _ (c .before .before .clash-after .ensures) (c .before .if3 .left) ∙ left-many _ _ (c .if4 .taken)))
 
 loop-less : tie.Need-loop-less Inv-loop μ-loop
 loop-less c = omega arith
 
 loop-again : tie.Need-loop-again Inv-loop μ-loop
-loop-again c = (
-  omega arith,
-  omega arith,
-  c .before .before .before .before .before .before .before .before .before .before .loop .inv .2 ∙ turn-on _ _ _ _
-      (c .before .before .before .before .before .before .before .before .find .ensures .0)
-      (c .before .before .before .before .before .before .before .before .before .loop-test .taken)
-      (c .before .before .before .before .before .before .before .if1 .left) _ _ _ (c .before .before .before .before .before .read-line .ensures)
-      (c .before .before .before .before .if2 .taken) _ _ _ (c .before .before .seek .ensures) (c .before .if3 .left),
-)
+loop-again c = (omega arith, omega arith, c .before .before .before .before .before .before .before .before .before .before .loop .inv .2 ∙ turn-on _ _ _ _ (c .before .before .before .before .before .before .before .before .find .ensures .0) (c .before .before .before .before .before .before .before .before .before .loop-test .taken) (c .before .before .before .before .before .before .before .if1 .left) _ _ _ (c .before .before .before .before .before .read-line .ensures) (c .before .before .before .before .if2 .taken) _ (c .before .before .clash-after .ensures) (c .before .if3 .left))
 
 returns-5 : tie.Need-returns-5 Inv-loop μ-loop
 returns-5 c = table-bad _ (c .before .before .loop .inv .2 ∙ left-none _ _ _ (c .before .loop-test .left) (c .if5 .taken))
@@ -108,11 +93,11 @@ judge-table-spec =
     part-read-line-end
     read-line-requires
     returns-2
-    add-seek
-    sub-seek
-    part-seek-start
-    part-seek-end
-    seek-requires
+    add-clash-after
+    sub-clash-after
+    part-clash-after-start
+    part-clash-after-end
+    clash-after-requires
     returns-3
     add-at
     add-lines

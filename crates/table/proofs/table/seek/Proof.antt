@@ -8,10 +8,10 @@ use Rattle.table.proofs.table.seek.Statement.{statement}
 use Rattle.table.proofs.table.seek.Tie as tie
 
 abbrev Inv-loop : tie.InvT-loop
-Inv-loop text id wanted at₀ at = (at ≤ length text) × Ahead id text at
+Inv-loop text id at₀ at = (at ≤ length text) × Ahead id text at
 
 abbrev μ-loop : tie.MeasureT-loop
-μ-loop text id wanted at₀ at = length text - at
+μ-loop text id at₀ at = length text - at
 
 loop-holds : tie.Need-loop-holds Inv-loop μ-loop
 loop-holds c = (search needs, ahead-all _ _)
@@ -22,21 +22,20 @@ find-requires c κs = (omega arith, omega arith)
 returns : tie.Need-returns Inv-loop μ-loop
 returns c = sought-no-end _ _ _ _ (c .before .find .ensures .0) (c .before .before .loop-test .taken) (c .before .before .before .loop .inv .1) (c .if1 .taken)
 
-sub-line-id : tie.Need-sub-line-id Inv-loop μ-loop
-sub-line-id c = omega arith
+sub-line-fits : tie.Need-sub-line-fits Inv-loop μ-loop
+sub-line-fits c = omega arith
 
-part-line-id-start : tie.Need-part-line-id-start Inv-loop μ-loop
-part-line-id-start c = omega arith
+part-line-fits-start : tie.Need-part-line-fits-start Inv-loop μ-loop
+part-line-fits-start c = omega arith
 
-part-line-id-end : tie.Need-part-line-id-end Inv-loop μ-loop
-part-line-id-end c = omega arith
+part-line-fits-end : tie.Need-part-line-fits-end Inv-loop μ-loop
+part-line-fits-end c = omega arith
 
-line-id-requires : tie.Need-line-id-requires Inv-loop μ-loop
-line-id-requires c κs = search needs
+line-fits-requires : tie.Need-line-fits-requires Inv-loop μ-loop
+line-fits-requires c κs = search needs
 
 returns-2 : tie.Need-returns-2 Inv-loop μ-loop
-returns-2 c = sought-here _ _ _ _ (c .before .before .before .before .find .ensures .0) (c .before .before .before .before .before .loop-test .taken)
-    (c .before .before .before .before .before .before .loop .inv .1) (c .before .before .before .if1 .left) _ (c .before .line-id .ensures) (c .if2 .taken)
+returns-2 c = sought-here _ _ _ _ (c .before .before .before .before .find .ensures .0) (c .before .before .before .before .before .loop-test .taken) (c .before .before .before .before .before .before .loop .inv .1) (c .before .before .before .if1 .left) _ (c .before .line-fits .ensures) (c .if2 .taken)
 
 add-at : tie.Need-add-at Inv-loop μ-loop
 add-at c = omega arith
@@ -45,11 +44,7 @@ loop-less : tie.Need-loop-less Inv-loop μ-loop
 loop-less c = omega arith
 
 loop-again : tie.Need-loop-again Inv-loop μ-loop
-loop-again c = (
-  omega arith,
-  ahead-on _ _ _ _ (c .before .before .before .before .find .ensures .0) (c .before .before .before .before .before .loop-test .taken)
-      (c .before .before .before .before .before .before .loop .inv .1) (c .before .before .before .if1 .left) _ (c .before .line-id .ensures) (c .if2 .left),
-)
+loop-again c = (omega arith, ahead-on _ _ _ _ (c .before .before .before .before .find .ensures .0) (c .before .before .before .before .before .loop-test .taken) (c .before .before .before .before .before .before .loop .inv .1) (c .before .before .before .if1 .left) _ (c .before .line-fits .ensures) (c .if2 .left))
 
 returns-3 : tie.Need-returns-3 Inv-loop μ-loop
 returns-3 c = sought-none _ _ _ (c .before .loop .inv .1) (c .loop-test .left)
@@ -63,10 +58,10 @@ seek-spec =
     loop-holds
     find-requires
     returns
-    sub-line-id
-    part-line-id-start
-    part-line-id-end
-    line-id-requires
+    sub-line-fits
+    part-line-fits-start
+    part-line-fits-end
+    line-fits-requires
     returns-2
     add-at
     loop-less
