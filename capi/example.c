@@ -10,9 +10,9 @@
 
 #include "tickmallet.h"
 
-/* P and R of the largest device and the shortest rows: room for every record that a table can give. A sound table has 64 lines of 41 bytes
+/* P and R of the largest device and the shortest rows: room for every record that a table can give. A sound table has 64 lines of 46 bytes
    at most. */
-enum { P = TICKMALLET_MOST_WORDS, R = 8, MOST_TABLE = 64 * 41 };
+enum { P = TICKMALLET_MOST_WORDS, R = 8, MOST_TABLE = 64 * 46 };
 
 /* Each text has room for one byte more than a sound one can have: a file that is too long is refused, and its beginning is not taken for it. */
 static uint8_t table[MOST_TABLE + 1], sheet[TICKMALLET_SHEET_BYTES(P) + 1], hex[TICKMALLET_MOST_HEX_READ + 1];
@@ -56,7 +56,7 @@ int main(int argc, char **argv)
     size_t sheet_count = load(argv[2], sheet, sizeof sheet);
     size_t hex_count = load(argv[3], hex, sizeof hex);
 
-    /* the record: a malformed table first, then the sheet's first line, then an ID that the table does not have */
+    /* the record: a malformed table first, then the sheet's first line, then an ID that fits no line of the table */
     uint16_t id;
     tickmallet_device device;
     size_t name_at, name_len;

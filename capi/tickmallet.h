@@ -5,7 +5,7 @@
    - A call returns its number: 0, or the refusal as the paper counts it (verify also 40 and 41).
    - The other values of an answer are stored through pointers, in every case. A value that the answer does not name is stored as 0.
    - A list is two arguments, the address of its first element and the count of its elements (not of its bytes).
-   - A device record crosses by address: its five numbers stand in a row, in the order of the struct below.
+   - A device record crosses by address: its six numbers of 16 bits stand in a row, in the order of the struct below.
 
    What the caller keeps; nothing else is asked, and each call judges the contents of what it gets
    - No address is null, of a list neither where its count is 0, nor of a value that the caller does not want. Each is that of so many
@@ -24,7 +24,7 @@
 #ifndef TICKMALLET_H
 #define TICKMALLET_H
 
-#define TICKMALLET_VERSION "0.3.0"
+#define TICKMALLET_VERSION "0.4.0"
 
 #include <stddef.h>
 #include <stdint.h>
@@ -33,19 +33,24 @@
 extern "C" {
 #endif
 
-/* A device: its ID word, program words P, row words R, and the masks of the two configuration words, which say what bits these have:
-   no write changes another bit of them, an image has no say in it, and verify does not compare it. Bulk Erase sets all 14.
-   The rules, which every call that takes a record judges first (13): R is 8, 16 or 32; P is a multiple of R, from R to 32768; the ID and both
-   masks are at most 3FFFh; mask1 has bit 7 set. */
+/* A device: its ID word, program words P, row words R, the masks of the two configuration words, and that of the ID. The configuration
+   words' masks say what bits these have: no write changes another bit of them, an image has no say in it, and verify does not compare it.
+   Bulk Erase sets all 14. The ID's mask says by what bits a part is known: a word fits a device if it is at most 3FFFh and equals the ID in
+   every bit of the mask. 0x3FFF compares the whole ID, and 0 none of it; the ID's bits that the mask has not have no say.
+   The rules, which every call that takes a record judges first (13): R is 8, 16 or 32; P is a multiple of R, from R to 32768; the ID and all
+   three masks are at most 3FFFh; mask1 has bit 7 set.
+   The ID's mask came with 0.4.0. With an older header a record has five numbers, where the calls read six and find_device stores six: such
+   a program is compiled anew and not only linked anew. */
 typedef struct {
     uint16_t id, words, row, mask1, mask2;
+    uint16_t idmask; /* an initializer that gives only the five numbers before it leaves it 0, which every word fits */
 } tickmallet_device;
 
 /* Sizes, for a record that keeps the rules: how long each list has to be, and a room that each output fits, so that 26 is not given. The
    outputs' sizes are proved; capi/README.md names each theorem. All are constant expressions where P and R are, so that they can be the
    sizes of arrays. P and R are evaluated more than once. Room for every device is that of TICKMALLET_MOST_WORDS and R = 8; a program that has
    less asks the record for its words before it lends a list of so many. Both limits grew with 0.3.0 (8192 and 131072 before), so that a
-   program compiled with an older header has less. */
+   program compiled with a header from before that has less. */
 #define TICKMALLET_MOST_WORDS 32768      /* P of the largest device */
 #define TICKMALLET_MOST_HEX_READ 524288  /* bytes of HEX text that read_hex takes */
 
@@ -68,8 +73,9 @@ typedef struct {
 /* HEX text that write_hex writes has at most so many bytes. So much is proved; no text that was found has more than 17 P / 2 + 96. */
 #define TICKMALLET_HEX_BYTES(P) (14 * (size_t)(P) + 156)
 
-/* Looks an ID up in the text of a device table, which is judged whole.
-   15: the table is malformed. 16: it has no such ID. Else 0, the record, and the place and length of its name in the text. */
+/* Looks an ID up in the text of a device table, which is judged whole. A line has six fields, or seven with the ID's mask last; six stand
+   for 3FFFh. 15: the table is malformed, also where some word fits two of its lines. 16: the ID fits no line. Else 0, the record as the line
+   has it, with the line's ID, and the place and length of its name in the text. */
 uint8_t tickmallet_find_device(const uint8_t *table, size_t table_count, uint16_t id,
                                tickmallet_device *device, size_t *name_at, size_t *name_len);
 
@@ -77,11 +83,13 @@ uint8_t tickmallet_find_device(const uint8_t *table, size_t table_count, uint16_
 uint8_t tickmallet_read_id(const uint8_t *text, size_t text_count, uint16_t *id);
 
 /* Reads a sheet into a buffer of P+9 words.
-   13: the record. 12: the buffer is not P+9 long. 14: the text is not the sheet of any reading under this record. */
+   13: the record. 12: the buffer is not P+9 long. 14: the text is not a sheet of P+9 words, or the ID on its first line does not fit
+   the record; it is not held against word 8006h. */
 uint8_t tickmallet_read_sheet(const tickmallet_device *device, const uint8_t *text, size_t text_count,
                               uint16_t *reading, size_t reading_count);
 
-/* Writes the sheet of a reading and stores its length. 13; 21: not a reading; 26: the buffer is too short. */
+/* Writes the sheet of a reading, with the record's ID on the first line, and stores its length. 13; 21: not a reading; 26: the buffer is
+   too short. */
 uint8_t tickmallet_write_sheet(const tickmallet_device *device, const uint16_t *reading, size_t reading_count,
                                uint8_t *out, size_t out_count, size_t *length);
 
@@ -112,13 +120,13 @@ uint8_t tickmallet_run(const tickmallet_device *device, uint16_t *cells, size_t 
 /* Plans an update of a board that holds the reading: what the image gives changes, every other word stays, and a cut at any step followed
    by the same stream again comes to the same. Stores the number of steps; the stream is three times as many bytes.
    Of a configuration word the image gives the bits under its mask; the others stay as read.
-   13; 20: not an image; 21: not a reading; 22: word 8006h is not the record's ID; 23: the reading is protected; 24: a configuration bit
-   under its mask would have to go from 0 to 1; 26: the buffer is too short. */
+   13; 20: not an image; 21: not a reading; 22: word 8006h does not fit the record; 23: the reading is protected; 24: a configuration
+   bit under its mask would have to go from 0 to 1; 26: the buffer is too short. */
 uint8_t tickmallet_update(const tickmallet_device *device, const uint16_t *image, size_t image_count,
                           const uint16_t *reading, size_t reading_count, uint8_t *out, size_t out_count, size_t *steps);
 
 /* Plans a fresh programming of any board whose word 8006h is `id_word`: what the image does not give becomes 3FFFh, and every bit of a
-   configuration word that is not under its mask becomes 1. 13, 20, 22, 26. */
+   configuration word that is not under its mask becomes 1. 13; 20; 22: `id_word` does not fit the record; 26. */
 uint8_t tickmallet_fresh(const tickmallet_device *device, const uint16_t *image, size_t image_count, uint16_t id_word,
                          uint8_t *out, size_t out_count, size_t *steps);
 

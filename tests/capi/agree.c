@@ -36,6 +36,9 @@ int main(void)
         agree_tables();
     }
     agree_decimals();
+    agree_masks();
+    agree_first_lines();
+    agree_id_words();
     agree_larger(middle_board, MIDDLE, "each call takes boards of 8192 words and more");
     agree_larger(large_board, LARGE, "each call takes boards of the largest device");
     agree_long_hex();

@@ -92,7 +92,7 @@ static void lists(const tickmallet_device *d)
 
 static void limits(void)
 {
-    tickmallet_device d = {0x3023, P, 8, 0x3eff, 0x3ff3}, more = {0x3023, P + 8, 8, 0x3eff, 0x3ff3};
+    tickmallet_device d = {0x3023, P, 8, 0x3eff, 0x3ff3, 0x3fff}, more = {0x3023, P + 8, 8, 0x3eff, 0x3ff3, 0x3fff};
     size_t steps;
     holds(tickmallet_read_back(&d, reads, sizeof reads, &steps) == 0, "P may be TICKMALLET_MOST_WORDS");
     holds(tickmallet_read_back(&more, reads, sizeof reads, &steps) == 13, "P may not be more");
@@ -108,7 +108,7 @@ void agree_bounds(void)
     static const uint16_t sizes[12][2] = {
         {8, 8}, {16, 8}, {16, 16}, {32, 32}, {96, 32}, {8192, 8}, {8200, 8}, {P / 2, 16}, {P - 32, 32}, {P, 8}, {P, 16}, {P, 32}}; /* P and R */
     for (int i = 0; i < 12; i++) {
-        const tickmallet_device d = {0x3023, sizes[i][0], sizes[i][1], 0x3eff, 0x3ff3};
+        const tickmallet_device d = {0x3023, sizes[i][0], sizes[i][1], 0x3eff, 0x3ff3, 0x3fff};
         streams(&d);
         sheets(&d);
         hexes(&d);

@@ -184,7 +184,7 @@ static size_t put_words(uint8_t *to, unsigned first, size_t words, size_t place,
 /* The longest record of whole words, refused at each of them: with 7 by its address, with 8, and with 9 by a record before it. */
 static void every_word(void)
 {
-    static const tickmallet_device d = {0x2a00, 256, 32, 0x3eff, 0x3ff3};
+    static const tickmallet_device d = {0x2a00, 256, 32, 0x3eff, 0x3ff3, 0x3fff};
     enum { WORDS = 127 };
     for (unsigned place = 0; place < WORDS; place++) {
         read_hex(&d, text, put_words(text, 256 - place, WORDS, place, 0x3fff), 265);
@@ -220,7 +220,7 @@ static void across_64k(const tickmallet_device *d)
 /* The longest record that goes past 64 KiB and is sound, refused at each of its words: with 8, and with 9 by a record before it. */
 static void every_word_across(void)
 {
-    static const tickmallet_device d = {0x2a01, 32768, 32, 0x3eff, 0x3ff3};
+    static const tickmallet_device d = {0x2a01, 32768, 32, 0x3eff, 0x3ff3, 0x3fff};
     enum { WORDS = 127, UNDER = WORDS - 4, FIRST = 0x8000 - UNDER };
     for (unsigned place = 0; place < WORDS; place++) {
         read_hex(&d, text, put_words(text, FIRST, WORDS, place, 0x4000), 32777);
@@ -235,9 +235,9 @@ static void every_word_across(void)
    records that go past 64 KiB. */
 void agree_long_hex(void)
 {
-    static const tickmallet_device d = {0x2a00, 16, 8, 0x3eff, 0x3ff3};
-    static const tickmallet_device larger[4] = {{0x2a01, 32768, 32, 0x3eff, 0x3ff3}, {0x2a01, 32760, 8, 0x3eff, 0x3ff3},
-                                                {0x2a01, 32736, 32, 0x3eff, 0x3ff3}, {0x2a01, 8192, 8, 0x3eff, 0x3ff3}};
+    static const tickmallet_device d = {0x2a00, 16, 8, 0x3eff, 0x3ff3, 0x3fff};
+    static const tickmallet_device larger[4] = {{0x2a01, 32768, 32, 0x3eff, 0x3ff3, 0x3fff}, {0x2a01, 32760, 8, 0x3eff, 0x3ff3, 0x3fff},
+                                                {0x2a01, 32736, 32, 0x3eff, 0x3ff3, 0x3fff}, {0x2a01, 8192, 8, 0x3eff, 0x3ff3, 0x3fff}};
     static const size_t shorter[5] = {65536, 65537, 131072, 131073, TICKMALLET_MOST_HEX_READ - 1};
     const size_t most = TICKMALLET_MOST_HEX_READ;
     memset(text, '\n', sizeof text);

@@ -6,7 +6,7 @@
 
 enum { P = 32768, COUNT = P + 9, MOST_TEXT = 524288 };
 
-static const tickmallet_device big = {0x2a01, P, 32, 0x3eff, 0x3ff3}, short_rows = {0x2a01, P, 8, 0x3eff, 0x3ff3};
+static const tickmallet_device big = {0x2a01, P, 32, 0x3eff, 0x3ff3, 0x3fff}, short_rows = {0x2a01, P, 8, 0x3eff, 0x3ff3, 0x3fff};
 
 static uint16_t image[COUNT], reading[COUNT], found[COUNT], cells[COUNT + 2];
 static uint8_t text[MOST_TEXT + 1], stream[221250];
@@ -19,13 +19,14 @@ static uint8_t found_number(const tickmallet_device *d)
     tickmallet_device kept;
     size_t name_at, name_len, n = (size_t)snprintf(line, sizeof line, "BIG\t2A01\t%d\t%d\t3EFF\t3FF3\n", d->words, d->row);
     uint8_t number = tickmallet_find_device((const uint8_t *)line, n, 0x2a01, &kept, &name_at, &name_len);
-    holds(number ? kept.words == 0 : kept.words == d->words && kept.row == d->row, "find_device stores the record of a large part");
+    holds(number ? kept.words == 0 : kept.words == d->words && kept.row == d->row && kept.idmask == 0x3fff,
+          "find_device stores the record of a large part");
     return number;
 }
 
 static void record(unsigned words, unsigned row, int sound)
 {
-    const tickmallet_device d = {0x2a01, (uint16_t)words, (uint16_t)row, 0x3eff, 0x3ff3};
+    const tickmallet_device d = {0x2a01, (uint16_t)words, (uint16_t)row, 0x3eff, 0x3ff3, 0x3fff};
     size_t steps;
     holds(found_number(&d) == (sound ? 0 : 15), "find_device takes P up to 32768 and no larger");
     holds(tickmallet_read_back(&d, stream, sizeof stream, &steps) == (sound ? 0 : 13) && steps == (sound ? 2 * words + 18 : 0),
@@ -60,7 +61,7 @@ static void blank(uint16_t *list, size_t count)
 static void read_across(unsigned words, unsigned number)
 {
     static const char across[] = ":04FFFE003412560063\n:00000001FF\n";
-    const tickmallet_device d = {0x2a01, (uint16_t)words, 32, 0x3eff, 0x3ff3};
+    const tickmallet_device d = {0x2a01, (uint16_t)words, 32, 0x3eff, 0x3ff3, 0x3fff};
     uint32_t line, column;
     blank(image, words + 9);
     if (number == 0)

@@ -50,6 +50,14 @@ static size_t put_field(size_t n, size_t at, const char *digits)
     return n;
 }
 
+/* Another ID on the first line. */
+static void put_id(unsigned id)
+{
+    static const char digits[] = "0123456789ABCDEF";
+    for (int i = 0; i < 4; i++)
+        sheet[i] = (uint8_t)digits[id >> (12 - 4 * i) & 15];
+}
+
 /* Breaks a sheet in one way; some of these leave a sheet of other words. */
 static size_t damage(size_t n)
 {
@@ -119,8 +127,61 @@ void agree_sheets(const struct board *b)
         read_sheet(&b->device, n, about(b->words + 9)); /* the record or the reading is refused: an empty text */
         return;
     }
+    put_id(about_id(b->device.id, b->device.idmask));
     read_sheet(&b->device, n, about(b->words + 9));
     n = damage(n);
     read_sheet(&b->device, n, about(b->words + 9));
     first_line(n);
+}
+
+/* ---- the first line under a mask, by figures that were worked out by hand */
+
+static const struct {
+    uint16_t mask, first;
+    uint8_t number;
+} firsts[] = {
+    {0x3fe0, 0x2f84, 0},  {0x3fe0, 0x2f80, 0},  {0x3fe0, 0x2f82, 0},  {0x3fe0, 0x2f9f, 0}, {0x3fe0, 0x2fa0, 14}, {0x3fe0, 0x2f7f, 14},
+    {0x3fe0, 0x0f82, 14}, {0x3fe0, 0x6f82, 14}, {0x3fff, 0x2f82, 0},  {0x3fff, 0x2f83, 14}, {0x0000, 0x0000, 0},  {0x0000, 0x3fff, 0},
+    {0x0000, 0x4000, 14}, {0x0000, 0xffff, 14}, {0x4000, 0x2f82, 13}, {0xffff, 0x2f82, 13}};
+
+/* Whether 8006h fits the record or not, a sheet is read. */
+static void by_figures(unsigned mask, unsigned first, unsigned number, unsigned word_8006)
+{
+    const tickmallet_device d = {0x2f82, 16, 8, 0x3eff, 0x3ff3, (uint16_t)mask};
+    static const char text[] = "2F82\n"
+                               "0000\t0000\t0001\t0002\t0003\t0004\t0005\t0006\t0007\n"
+                               "0008\t0008\t0009\t000A\t000B\t000C\t000D\t000E\t000F\n"
+                               "8000\t0010\t0011\t0012\t0013\t0014\t0015\tXXXX\t0017\t0018\n";
+    const size_t n = sizeof text - 1, at_8006 = n - 15;
+    memcpy(sheet, text, n);
+    memcpy(sheet + at_8006, word_8006 == 0x2f85 ? "2F85" : "2FA0", 4);
+    put_id(first);
+    read_id(n);
+    holds(proved.number == (first < 0x4000 ? 0 : 14) && proved.value == (first < 0x4000 ? first : 0),
+          "read_id by figures: any word, and nothing above");
+    read_sheet(&d, n, 25);
+    holds(proved.number == number, "read_sheet by figures: the first line has to fit the record");
+    if (number)
+        return;
+    uint16_t words[25];
+    memcpy(words, proved.words, sizeof words);
+    int same = 1;
+    for (unsigned i = 0; i < 25; i++)
+        same &= words[i] == (i == 22 ? word_8006 : i);
+    holds(same, "its words are the reading");
+    begin(n, 0, 0);
+    proved.number = tickmallet_write_sheet(&d, words, 25, proved.bytes, n, &proved.a);
+    plain.number = plain_write_sheet(&d, words, 25, plain.bytes, n, &plain.a);
+    end(WRITE_SHEET);
+    put_id(0x2f82);
+    holds(proved.number == 0 && proved.a == n && !memcmp(proved.bytes, sheet, n),
+          "write_sheet puts the record's ID on the first line, whatever was read there");
+}
+
+void agree_first_lines(void)
+{
+    for (size_t i = 0; i < sizeof firsts / sizeof *firsts; i++) {
+        by_figures(firsts[i].mask, firsts[i].first, firsts[i].number, 0x2f85);
+        by_figures(firsts[i].mask, firsts[i].first, firsts[i].number, 0x2fa0);
+    }
 }

@@ -106,7 +106,7 @@ static void update(const struct board *b)
 static void fresh(const struct board *b)
 {
     size_t p = b->words, count = about(p + 9), need = 0;
-    uint16_t id = below(20) ? b->device.id : word();
+    uint16_t id = about_id(b->device.id, b->device.idmask);
     plain_fresh(&b->device, b->image, p + 9, id, stream, MOST_BYTES, &need);
     size_t room = some_room(3 * need);
     begin(room, 0, 0);
@@ -134,4 +134,52 @@ void agree_streams(const struct board *b)
     fresh(b);
     read_back(b);
     run_any(b);
+}
+
+/* ---- the ID word under a mask, by figures that were worked out by hand */
+
+static const struct {
+    uint16_t mask, id_word;
+    uint8_t update, fresh;
+} id_words[] = {
+    {0x3fe0, 0x2f85, 0, 0},   {0x3fe0, 0x2f80, 0, 0},   {0x3fe0, 0x2f82, 0, 0},   {0x3fe0, 0x2f9f, 0, 0},   {0x3fe0, 0x2fa0, 22, 22},
+    {0x3fe0, 0x2f7f, 22, 22}, {0x3fe0, 0x0f82, 22, 22}, {0x3fe0, 0x6f82, 21, 22}, {0x3fe0, 0xaf82, 21, 22}, {0x3fff, 0x2f82, 0, 0},
+    {0x3fff, 0x2f83, 22, 22}, {0x3fff, 0x6f82, 21, 22}, {0x0000, 0x0000, 0, 0},   {0x0000, 0x3fff, 0, 0},   {0x0000, 0x4000, 21, 22},
+    {0x0000, 0xffff, 21, 22}, {0x4000, 0x2f82, 13, 13}, {0xffff, 0x2f82, 13, 13}};
+
+static void update_by_figures(const tickmallet_device *d, const uint16_t *image, const uint16_t *reading, unsigned number)
+{
+    static const uint8_t reset[3] = {0x16, 0, 0};
+    begin(3, 0, 0);
+    proved.number = tickmallet_update(d, image, 25, reading, 25, proved.bytes, 3, &proved.a);
+    plain.number = plain_update(d, image, 25, reading, 25, plain.bytes, 3, &plain.a);
+    end(UPDATE);
+    holds(proved.number == number && proved.a == (number ? 0 : 1) && (number || !memcmp(proved.bytes, reset, 3)),
+          "update by figures: 8006h has to fit the record");
+}
+
+/* Nothing is given: an update is Reset alone, and a fresh stream has only its first three steps. */
+static void by_figures(unsigned mask, uint16_t id_word, unsigned of_update, unsigned of_fresh)
+{
+    static const uint8_t cleared[9] = {0x00, 0xfe, 0x7f, 0x09, 0, 0, 0x16, 0, 0};
+    const tickmallet_device d = {0x2f82, 16, 8, 0x3eff, 0x3ff3, (uint16_t)mask};
+    uint16_t image[25], reading[25];
+    for (int i = 0; i < 25; i++)
+        image[i] = 0xffff, reading[i] = 0x3fff;
+    reading[21] = 0x2000, reading[22] = id_word;
+    update_by_figures(&d, image, reading, of_update);
+    reading[23] = 0x3f7f; /* protected, which is told only where 8006h fits */
+    update_by_figures(&d, image, reading, of_update ? of_update : 23);
+    begin(9, 0, 0);
+    proved.number = tickmallet_fresh(&d, image, 25, id_word, proved.bytes, 9, &proved.a);
+    plain.number = plain_fresh(&d, image, 25, id_word, plain.bytes, 9, &plain.a);
+    end(FRESH);
+    holds(proved.number == of_fresh && proved.a == (of_fresh ? 0 : 3) && (of_fresh || !memcmp(proved.bytes, cleared, 9)),
+          "fresh by figures: the ID word has to fit the record");
+}
+
+void agree_id_words(void)
+{
+    for (size_t i = 0; i < sizeof id_words / sizeof *id_words; i++)
+        by_figures(id_words[i].mask, id_words[i].id_word, id_words[i].update, id_words[i].fresh);
 }

@@ -25,9 +25,40 @@ void turn_spare_bits(const struct board *b, uint16_t *list)
         list[b->words + k] ^= spare_bits(&b->device, k) & (below(3) ? word() : 0x3fff);
 }
 
+uint16_t any_id_mask(void)
+{
+    switch (below(12)) {
+    case 0: return 0x0000;
+    case 1: return 0x3fe0;
+    case 2: return (uint16_t)(0x3fff ^ 1u << below(14));
+    case 3: return (uint16_t)(1u << below(14));
+    case 4:
+    case 5: return word();
+    case 6: return word() | word();
+    default: return 0x3fff;
+    }
+}
+
+uint16_t fitting(uint16_t id, uint16_t mask)
+{
+    return below(3) ? id ^ (word() & ~mask) : id;
+}
+
+uint16_t about_id(uint16_t id, uint16_t mask)
+{
+    uint16_t fits = fitting(id, mask);
+    switch (below(24)) {
+    case 0: return (uint16_t)(fits ^ 1u << below(14));
+    case 1: return (uint16_t)(fits ^ 0x4000u << below(2));
+    case 2: return word();
+    default: return fits;
+    }
+}
+
 /* The record's own masks, or others: with few spare bits, about seven, nearly all. */
 static void any_masks(tickmallet_device *d)
 {
+    d->idmask = any_id_mask();
     switch (below(6)) {
     case 0: d->mask1 = 0x3fff ^ (word() & word() & word()), d->mask2 = 0x3fff ^ (word() & word() & word()); break;
     case 1:
@@ -43,7 +74,7 @@ static void damage(tickmallet_device *d)
 {
     static const uint16_t rows[12] = {0, 1, 4, 7, 9, 12, 15, 24, 31, 33, 64, 256};
     static const uint16_t words[14] = {0, 4, 8192, 8200, 8224, 16384, 32736, 32760, 32768, 32776, 32800, 40000, 65528, 65535};
-    switch (below(8)) {
+    switch (below(9)) {
     case 0: d->row = rows[below(12)]; break;
     case 1: d->row = (uint16_t)(8u << below(3)); break;
     case 2: d->words = words[below(14)]; break;
@@ -52,6 +83,7 @@ static void damage(tickmallet_device *d)
     case 5: d->mask1 ^= 0x80; break;
     case 6: d->mask1 |= (uint16_t)(0x4000 << below(2)); break;
     case 7: d->mask2 |= (uint16_t)(0x4000 << below(2)); break;
+    case 8: d->idmask |= (uint16_t)(0x4000 << below(2)); break;
     }
 }
 
@@ -60,7 +92,7 @@ static void any_reading(struct board *b)
     size_t p = b->words;
     for (size_t i = 0; i < p + 11; i++)
         b->reading[i] = below(3) ? word() : 0x3fff;
-    b->reading[p + 6] = below(20) ? b->device.id : word();
+    b->reading[p + 6] = about_id(b->device.id, b->device.idmask);
     b->reading[p + 7] |= below(8) ? 0x80 : 0;
     if (!below(20))
         b->reading[below((uint32_t)p + 11)] = (uint16_t)(below(2) ? 0x4000 : 0xffff);
@@ -96,9 +128,9 @@ static void fill_board(struct board *b, const tickmallet_device *sound)
 void small_board(struct board *b)
 {
     static const tickmallet_device sound[9] = {
-        {0x2a00, 16, 8, 0x3eff, 0x3ff3}, {0x3023, 64, 16, 0x3eff, 0x3ff3}, {0x3024, 32, 32, 0x0080, 0x3fff},
-        {0x0000, 8, 8, 0x3fff, 0x0000},  {0x3fff, 16, 16, 0x3eff, 0x3ff3}, {0x1abc, 24, 8, 0x2080, 0x1001},
-        {0x00ff, 96, 32, 0x3eff, 0x3ff3}, {0x2b01, 48, 16, 0x3eff, 0x3ff3}, {0x2a00, 64, 32, 0x3eff, 0x3ff3}};
+        {0x2a00, 16, 8, 0x3eff, 0x3ff3, 0x3fff},  {0x3023, 64, 16, 0x3eff, 0x3ff3, 0x3fff}, {0x3024, 32, 32, 0x0080, 0x3fff, 0x3fff},
+        {0x0000, 8, 8, 0x3fff, 0x0000, 0x3fff},   {0x3fff, 16, 16, 0x3eff, 0x3ff3, 0x3fff}, {0x1abc, 24, 8, 0x2080, 0x1001, 0x3fff},
+        {0x00ff, 96, 32, 0x3eff, 0x3ff3, 0x3fff}, {0x2b01, 48, 16, 0x3eff, 0x3ff3, 0x3fff}, {0x2a00, 64, 32, 0x3eff, 0x3ff3, 0x3fff}};
     fill_board(b, &sound[below(9)]);
 }
 
@@ -107,12 +139,12 @@ void middle_board(struct board *b)
 {
     const unsigned least = 8192, most = TICKMALLET_MOST_WORDS, row = 8u << below(3);
     const unsigned words[5] = {least, least + row, most - row, least + row * below((most - least) / row), most / 2};
-    tickmallet_device sound = {0x2a01, (uint16_t)words[below(5)], (uint16_t)row, 0x3eff, 0x3ff3};
+    tickmallet_device sound = {0x2a01, (uint16_t)words[below(5)], (uint16_t)row, 0x3eff, 0x3ff3, 0x3fff};
     fill_board(b, &sound);
 }
 
 void large_board(struct board *b)
 {
-    tickmallet_device sound = {0x3023, TICKMALLET_MOST_WORDS, (uint16_t)(8u << below(3)), 0x3eff, 0x3ff3};
+    tickmallet_device sound = {0x3023, TICKMALLET_MOST_WORDS, (uint16_t)(8u << below(3)), 0x3eff, 0x3ff3, 0x3fff};
     fill_board(b, &sound);
 }

@@ -10,13 +10,23 @@ struct board {
     uint16_t image[MOST_LIST], reading[MOST_LIST]; /* the reading with its two calibration words */
 };
 
-/* A board of at most 96 program words, one of 8192 up to the most, or one of the most, with any masks; one record in twelve is damaged. */
+/* A board of at most 96 program words, one of 8192 up to the most, or one of the most, with any masks; one record in twelve is damaged.
+   Word 8006h fits the record nearly always, and is often not its ID. */
 void small_board(struct board *b);
 void middle_board(struct board *b);
 void large_board(struct board *b);
 
 /* Other spare bits in the configuration words of a list of the board. */
 void turn_spare_bits(const struct board *b, uint16_t *list);
+
+/* A mask of the ID: the whole of it in five cases of twelve, else none of it, one bit, all but one or five, or any. */
+uint16_t any_id_mask(void);
+
+/* A word that fits an ID under its mask: the ID itself, or with anything for the bits that the mask has not. */
+uint16_t fitting(uint16_t id, uint16_t mask);
+
+/* Such a word; in one case of eight it has one bit turned, has a bit above the 14, or is any word. */
+uint16_t about_id(uint16_t id, uint16_t mask);
 
 /* A length that is right but for one case in twenty. */
 size_t about(size_t n);

@@ -67,8 +67,19 @@ static int takes_line(struct cursor *c, struct line *l)
     l->name_len = c->at - l->name_at;
     if (l->name_len < 1 || l->name_len > MOST_NAME)
         return 0;
-    return takes(c, TAB) && takes_word(c, &d->id) && takes(c, TAB) && takes_decimal(c, &d->words) && takes(c, TAB) && takes_decimal(c, &d->row) &&
-           takes(c, TAB) && takes_word(c, &d->mask1) && takes(c, TAB) && takes_word(c, &d->mask2) && takes(c, LF) && device_ok(d);
+    if (!(takes(c, TAB) && takes_word(c, &d->id) && takes(c, TAB) && takes_decimal(c, &d->words) && takes(c, TAB) && takes_decimal(c, &d->row) &&
+          takes(c, TAB) && takes_word(c, &d->mask1) && takes(c, TAB) && takes_word(c, &d->mask2)))
+        return 0;
+    d->idmask = LIMIT - 1; /* of a line with six fields: the whole ID is compared */
+    if (takes(c, TAB) && !takes_word(c, &d->idmask))
+        return 0;
+    return takes(c, LF) && device_ok(d);
+}
+
+/* Whether some word fits both: where only one mask has a bit, or none, the word can have either. */
+static int clash(const tickmallet_device *a, const tickmallet_device *b)
+{
+    return !((a->id ^ b->id) & a->idmask & b->idmask);
 }
 
 uint8_t plain_find_device(const uint8_t *table, size_t table_count, uint16_t id,
@@ -77,20 +88,20 @@ uint8_t plain_find_device(const uint8_t *table, size_t table_count, uint16_t id,
     struct cursor c = {table, 0, table_count};
     struct line lines[MOST_LINES];
     size_t n = 0;
-    *device = (tickmallet_device){0, 0, 0, 0, 0};
+    *device = (tickmallet_device){0, 0, 0, 0, 0, 0};
     *name_at = *name_len = 0;
     while (c.at < c.end) {
         if (n == MOST_LINES || !takes_line(&c, &lines[n]))
             return 15;
         for (size_t i = 0; i < n; i++)
-            if (lines[i].device.id == lines[n].device.id)
+            if (clash(&lines[i].device, &lines[n].device))
                 return 15;
         n++;
     }
     if (n == 0)
         return 15;
     for (size_t i = 0; i < n; i++)
-        if (lines[i].device.id == id) {
+        if (fits(&lines[i].device, id)) {
             *device = lines[i].device;
             *name_at = lines[i].name_at;
             *name_len = lines[i].name_len;
@@ -135,7 +146,7 @@ static int takes_sheet(const tickmallet_device *device, const uint8_t *text, siz
     struct cursor c = {text, 0, count};
     size_t words = device->words;
     uint16_t id;
-    if (!takes_id(&c, &id) || id != device->id)
+    if (!takes_id(&c, &id) || !fits(device, id))
         return 0;
     for (size_t i = 0; i < words; i += A_LINE)
         if (!takes_words(&c, (unsigned)i, A_LINE, to ? to + i : NULL))

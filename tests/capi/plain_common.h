@@ -12,7 +12,13 @@ static inline int device_ok(const tickmallet_device *d)
         return 0;
     if (d->words < d->row || d->words > 32768 || d->words % d->row)
         return 0;
-    return d->id < LIMIT && d->mask1 < LIMIT && d->mask2 < LIMIT && (d->mask1 & CP);
+    return d->id < LIMIT && d->mask1 < LIMIT && d->mask2 < LIMIT && d->idmask < LIMIT && (d->mask1 & CP);
+}
+
+/* A number above 3FFFh fits no mask, not even that of no bits. */
+static inline int fits(const tickmallet_device *d, unsigned number)
+{
+    return number < LIMIT && !((number ^ d->id) & d->idmask);
 }
 
 static inline int words_ok(const uint16_t *l, size_t count, size_t want)

@@ -122,7 +122,7 @@ uint8_t plain_update(const tickmallet_device *device, const uint16_t *image, siz
         return 20;
     if (!words_ok(reading, reading_count, words + 9))
         return 21;
-    if (reading[words + 6] != device->id)
+    if (!fits(device, reading[words + 6]))
         return 22;
     if (!(reading[words + 7] & CP))
         return 23;
@@ -148,7 +148,7 @@ uint8_t plain_fresh(const tickmallet_device *device, const uint16_t *image, size
         return 13;
     if (!image_ok(image, image_count, device->words))
         return 20;
-    if (id_word != device->id)
+    if (!fits(device, id_word))
         return 22;
     struct plan p = {device, image, NULL, device->words, device->row, 0, 0};
     size_t need = 3 + body_length(&p);

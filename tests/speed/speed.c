@@ -20,7 +20,7 @@ enum {
     PLAIN = 1,
 };
 
-static const tickmallet_device device = {0x3023, P, 32, 0x3eff, 0x3ff3};
+static const tickmallet_device device = {0x3023, P, 32, 0x3eff, 0x3ff3, 0x3fff};
 
 /* inputs */
 static uint16_t full[COUNT], board[CELLS], other[COUNT];

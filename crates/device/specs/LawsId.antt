@@ -2,7 +2,7 @@
 use Prim.Native.Nat.{ℕ, _≤_, _<_}
 use native.Mathlib.Omega.{arith}
 use mathlib.Core.Path.{_≡_, refl, sym, ap, _∙_}
-use mathlib.Core.Bool.{Bool, true, false, _&&_}
+use mathlib.Core.Bool.{true, false}
 use lib.Dec.{eqb}
 use lib.Bits.{bitAnd, and-comm}
 use borrow.Author.Tests.{eqb-true, eq-eqb, ne-eqb}
@@ -11,7 +11,7 @@ use Rattle.words.specs.LawsChoice.{first-holds, second-holds}
 use Rattle.words.specs.LawsTests.{by-lt}
 use Rattle.words.specs.LawsWord.{is-word, not-word, word-lt, and-erased}
 use Rattle.device.specs.declared.Device.{Device}
-use Rattle.device.specs.Record.{mostWords, deviceUpTo, deviceOk, fits}
+use Rattle.device.specs.Record.{deviceUpTo, fits}
 use Rattle.device.specs.LawsRecord.{RulesUpTo, keeps-up-to, rules-up-to}
 
 module _ (d : Device) (w : ℕ) where

@@ -78,11 +78,11 @@ fn places_ok(d: Device, text: &[u8]) -> bool
 fn id_ok(d: Device, text: &[u8]) -> bool
     ensures { λ r. ⌜ r ≡ fits d (idIn (now (text .entry))) ⌝ }
 {
-    let id = numerals::hex::capital_word(text, 0);
-    if WORD_LIMIT as u32 <= id {
+    let first = numerals::hex::capital_word(text, 0);
+    if WORD_LIMIT as u32 <= first {
         return false;
     }
-    device::fits(d, id as u16)
+    device::fits(d, first as u16)
 }
 
 // The program lines, each with its address.

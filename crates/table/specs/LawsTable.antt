@@ -8,12 +8,12 @@ use mathlib.Core.List.{List, [], _∷_}
 use lib.Dec.{leb, eqb}
 use lib.ListN.{length, take, drop, length-drop, drop-of-length-le}
 use lib.Seq.{length-take-le, take-all}
-use borrow.Author.Tests.{eq-eqb, ne-eqb, le-leb, lt-leb}
+use borrow.Author.Tests.{ne-eqb, le-leb, lt-leb}
 use Rattle.bytes.specs.Bytes.{indexOf, slice}
 use Rattle.words.specs.Choice.{pick}
 use Rattle.words.specs.LawsChoice.{pick-true, pick-false, first-holds, second-holds, first-fails, second-fails, true-not-false}
 use Rattle.device.specs.declared.Device.{Device}
-use Rattle.numerals.specs.Text.{tab, lf, split}
+use Rattle.numerals.specs.Text.{lf, split}
 use Rattle.numerals.specs.Decimal.{isDecimal}
 use Rattle.device.specs.Record.{mostWords, deviceOk, fits}
 use Rattle.numerals.specs.LawsText.{part, part-found, part-last, some-piece}

@@ -10,7 +10,7 @@ ghost use lib.Dec.{leb};
 ghost use lib.ListN.{length};
 ghost use Rattle.device.specs.Record.{fits};
 ghost use Rattle.table.specs.Table.{nameOk, hexField, idOf, idMaskOf, deviceOf, clash};
-ghost use Rattle.table.specs.LawsLine.{sixOrSeven, after, maskIn, Tabbed, Cut, Made, LineRead};
+ghost use Rattle.table.specs.LawsLine.{after, maskIn, Tabbed, Cut, Made, LineRead};
 
 // Where the first five tabs of a line stand and where its sixth field ends, if it has six fields or seven.
 pub(crate) struct Tabs {

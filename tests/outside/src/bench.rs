@@ -33,6 +33,12 @@ pub fn stream_text(stream: &[u8]) -> Vec<u8> {
         .collect()
 }
 
+/// The sheet of words with line 1 of the board's sheet: a `diff` of the two shows only words that change.
+fn sheet_like(board: &[u8], d: &Device, words: &[u16]) -> Vec<u8> {
+    let id = sheet::first_line(board).expect("an opened sheet has a line 1");
+    sheet::text(&Device { id, ..*d }, words)
+}
+
 pub fn checksum(table: &[u8], sheet: &[u8]) -> Printed {
     printed(board(table, sheet).and_then(|(d, reading)| {
         let sum = judge::checksum(&d, &reading)?;
@@ -70,7 +76,7 @@ pub fn update(table: &[u8], sheet: &[u8], text: &[u8]) -> Printed {
 pub fn fresh(table: &[u8], sheet: &[u8], text: &[u8]) -> Printed {
     printed(board(table, sheet).and_then(|(d, reading)| {
         let image = hex::image(&d, text, hex::PROGRAM_TEXT_MAX)?;
-        if reading[d.p() + 6] != d.id {
+        if !d.fits(reading[d.p() + 6]) {
             return Err(22.into());
         }
         Ok((
@@ -91,7 +97,7 @@ pub fn wanted(table: &[u8], sheet: &[u8], text: &[u8]) -> Printed {
             Some(number) => Err(number.into()),
             None => Ok((
                 0,
-                sheet::text(&d, &streams::wanted_over(&d, &image, &reading)),
+                sheet_like(sheet, &d, &streams::wanted_over(&d, &image, &reading)),
             )),
         }
     }))
@@ -101,13 +107,13 @@ pub fn wanted(table: &[u8], sheet: &[u8], text: &[u8]) -> Printed {
 pub fn wanted_fresh(table: &[u8], sheet: &[u8], text: &[u8]) -> Printed {
     printed(board(table, sheet).and_then(|(d, reading)| {
         let image = hex::image(&d, text, hex::PROGRAM_TEXT_MAX)?;
-        if reading[d.p() + 6] != d.id {
+        if !d.fits(reading[d.p() + 6]) {
             return Err(22.into());
         }
         let kept = d.p() + 4..d.p() + 7;
         let mut wanted = streams::wanted_blank(&d, &image);
         wanted[kept.clone()].copy_from_slice(&reading[kept]);
-        Ok((0, sheet::text(&d, &wanted)))
+        Ok((0, sheet_like(sheet, &d, &wanted)))
     }))
 }
 
@@ -156,7 +162,7 @@ pub fn trial(table: &[u8], sheet: &[u8], text: &[u8]) -> Printed {
         if run.number != 0 {
             return Err(refused_line(run.number, run.steps as usize + 1));
         }
-        Ok((0, sheet::text(&d, &cells[..d.entries()])))
+        Ok((0, sheet_like(sheet, &d, &cells[..d.entries()])))
     }))
 }
 
@@ -196,6 +202,6 @@ fn answered(d: &Device, text: &[u8]) -> Option<Vec<u16>> {
 pub fn gather(table: &[u8], sheet: &[u8], text: &[u8]) -> Printed {
     printed(record(table, sheet).and_then(|d| {
         let words = answered(&d, text).ok_or(21)?;
-        Ok((0, sheet::text(&d, &words)))
+        Ok((0, sheet_like(sheet, &d, &words)))
     }))
 }

@@ -9,7 +9,7 @@ pub const OPENED_MAX: u16 = 8_192;
 /// As many words as the largest reading of such a board has.
 pub const READING_MAX: usize = OPENED_MAX as usize + 9;
 
-/// The device of a sheet's first line: 15, 14 for that line, 16, 17 where it is too large.
+/// The device that a sheet's first line fits: 15, 14 for that line, 16, 17 where it is too large.
 pub fn record(text: &[u8], sheet: &[u8]) -> Result<Device, Refusal> {
     // A malformed table is told before the sheet is looked at, whatever ID would be asked for.
     if table(text).is_none() {
@@ -31,7 +31,7 @@ pub fn board(text: &[u8], sheet: &[u8]) -> Result<(Device, Vec<u16>), Refusal> {
 }
 
 /// The record that the calls answer beside any number: the one that is found for the first line's ID, which reads as 0
-/// where that line is malformed; five zeros where none is found.
+/// where that line is malformed; six zeros where none is found.
 pub fn answered(text: &[u8], sheet: &[u8]) -> Device {
     let id = sheet::first_line(sheet).unwrap_or(0);
     find(text, id).map_or(Device::NONE, |l| l.device)

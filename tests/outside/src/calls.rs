@@ -30,6 +30,12 @@ impl Call {
         self.kinds.starts_with(&[Num(16); D])
     }
 
+    /// Whether it answers a number first, 15 before all others, for the table that is its first field.
+    pub fn judges_table(&self) -> bool {
+        let number_first = ["device.judge_table", "device.find_device"];
+        number_first.contains(&self.name) || self.name.starts_with("board.")
+    }
+
     /// Whether it is about a device: a record, or program words and a list.
     pub fn about_device(&self) -> bool {
         self.takes_record() || self.kinds == [Num(16), Words]
@@ -38,7 +44,7 @@ impl Call {
 
 /// What 0 and 1 mean for calls that give no refusal numbers.
 pub const CLASSES: &str =
-    "words.*, print.*, next_line, line_from, first_number, third_line: 0 found or done, 1 nothing there (no room); is_words, is_image, is_reading, is_protected, programmable, id_fits: the answer; \
+    "words.*, print.*, next_line, line_from, first_number, third_line: 0 found or done, 1 nothing there (no room); is_words, is_image, is_reading, is_protected, programmable, fits: the answer; \
      under_mask: 0 a configuration word, 1 another entry; plan.wanted: 0 given by the image, 1 not";
 
 #[derive(Clone, Debug)]
@@ -67,6 +73,12 @@ impl Request {
 
     pub fn own(&self) -> Reply {
         (self.call().own)(&self.fields)
+    }
+
+    /// The table that it is about, if its call answers a number for it.
+    pub fn table(&self) -> Option<&[u8]> {
+        let judged = self.call().judges_table();
+        judged.then(|| field::bytes(&self.fields, 0))
     }
 
     /// The record that it is about, if its call takes one.
@@ -103,7 +115,7 @@ pub fn parse(line: &[u8]) -> Result<Request, &'static str> {
 }
 
 /// How many fields a record is, and so the place of the first after it.
-const D: usize = 5;
+pub const D: usize = 6;
 
 fn device_at(f: &[Field]) -> Device {
     let n = |i| field::num(f, i) as u16;
@@ -113,11 +125,12 @@ fn device_at(f: &[Field]) -> Device {
         row: n(2),
         mask1: n(3),
         mask2: n(4),
+        idmask: n(5),
     }
 }
 
 pub fn device_fields(d: &Device) -> Vec<Field> {
-    [d.id, d.words, d.row, d.mask1, d.mask2]
+    [d.id, d.words, d.row, d.mask1, d.mask2, d.idmask]
         .map(Field::from)
         .to_vec()
 }
@@ -331,6 +344,7 @@ const STEP: &[Kind] = &[
     Num(16),
     Num(16),
     Num(16),
+    Num(16),
     Latches,
     Num(8),
     Num(16),
@@ -458,7 +472,7 @@ pub static CALLS: &[Call] = &[
     },
     Call {
         name: "device.judge",
-        kinds: &[Num(16), Num(16), Num(16), Num(16), Num(16)],
+        kinds: &[Num(16), Num(16), Num(16), Num(16), Num(16), Num(16)],
         classes: &[0, 13],
         own: |f| {
             let number = if device_at(f).lawful() { 0 } else { 13 };
@@ -519,14 +533,23 @@ pub static CALLS: &[Call] = &[
         own: |f| truth(device::programmable(n16(f, 0), field::num(f, 1))),
     },
     Call {
-        name: "device.id_fits",
-        kinds: &[Num(16), Num(16), Num(16), Num(16), Num(16), Num(16)],
+        name: "device.fits",
+        kinds: &[
+            Num(16),
+            Num(16),
+            Num(16),
+            Num(16),
+            Num(16),
+            Num(16),
+            Num(16),
+        ],
         classes: &[0, 1],
-        own: |f| truth(device_at(f).id == n16(f, D)),
+        own: |f| truth(device_at(f).fits(n16(f, D))),
     },
     Call {
         name: "device.under_mask",
         kinds: &[
+            Num(16),
             Num(16),
             Num(16),
             Num(16),
@@ -546,7 +569,7 @@ pub static CALLS: &[Call] = &[
     },
     Call {
         name: "judge.checksum",
-        kinds: &[Num(16), Num(16), Num(16), Num(16), Num(16), Words],
+        kinds: &[Num(16), Num(16), Num(16), Num(16), Num(16), Num(16), Words],
         classes: &[0, 13, 21],
         own: |f| {
             let (number, sum) = match judge::checksum(&device_at(f), field::words(f, D)) {
@@ -558,7 +581,16 @@ pub static CALLS: &[Call] = &[
     },
     Call {
         name: "judge.verify",
-        kinds: &[Num(16), Num(16), Num(16), Num(16), Num(16), Words, Words],
+        kinds: &[
+            Num(16),
+            Num(16),
+            Num(16),
+            Num(16),
+            Num(16),
+            Num(16),
+            Words,
+            Words,
+        ],
         classes: &[0, 13, 21, 40, 41],
         own: |f| {
             let (number, address, count) =
@@ -568,7 +600,16 @@ pub static CALLS: &[Call] = &[
     },
     Call {
         name: "sheet.read_sheet",
-        kinds: &[Num(16), Num(16), Num(16), Num(16), Num(16), Bytes, Words],
+        kinds: &[
+            Num(16),
+            Num(16),
+            Num(16),
+            Num(16),
+            Num(16),
+            Num(16),
+            Bytes,
+            Words,
+        ],
         classes: &[0, 12, 13, 14],
         own: |f| {
             let mut buffer = field::words(f, D + 1).to_vec();
@@ -588,7 +629,16 @@ pub static CALLS: &[Call] = &[
     },
     Call {
         name: "sheet.write_sheet",
-        kinds: &[Num(16), Num(16), Num(16), Num(16), Num(16), Words, Bytes],
+        kinds: &[
+            Num(16),
+            Num(16),
+            Num(16),
+            Num(16),
+            Num(16),
+            Num(16),
+            Words,
+            Bytes,
+        ],
         classes: &[0, 13, 21, 26],
         own: |f| {
             let mut out = field::bytes(f, D + 1).to_vec();
@@ -598,7 +648,16 @@ pub static CALLS: &[Call] = &[
     },
     Call {
         name: HEX_READER,
-        kinds: &[Num(16), Num(16), Num(16), Num(16), Num(16), HexBytes, Words],
+        kinds: &[
+            Num(16),
+            Num(16),
+            Num(16),
+            Num(16),
+            Num(16),
+            Num(16),
+            HexBytes,
+            Words,
+        ],
         classes: &[0, 1, 2, 3, 4, 5, 6, 7, 8, 9, 10, 11, 12, 13],
         own: |f| {
             let mut image = field::words(f, D + 1).to_vec();
@@ -616,7 +675,16 @@ pub static CALLS: &[Call] = &[
     },
     Call {
         name: "ihex.write_hex",
-        kinds: &[Num(16), Num(16), Num(16), Num(16), Num(16), Words, HexBytes],
+        kinds: &[
+            Num(16),
+            Num(16),
+            Num(16),
+            Num(16),
+            Num(16),
+            Num(16),
+            Words,
+            HexBytes,
+        ],
         classes: &[0, 13, 20, 26],
         own: |f| {
             let mut out = field::bytes(f, D + 1).to_vec();
@@ -650,6 +718,7 @@ pub static CALLS: &[Call] = &[
             Num(16),
             Num(16),
             Num(16),
+            Num(16),
             Words,
             Bytes,
             Num(64),
@@ -661,6 +730,7 @@ pub static CALLS: &[Call] = &[
     Call {
         name: "plan.update",
         kinds: &[
+            Num(16),
             Num(16),
             Num(16),
             Num(16),
@@ -687,6 +757,7 @@ pub static CALLS: &[Call] = &[
             Num(16),
             Num(16),
             Num(16),
+            Num(16),
             Words,
             Num(16),
             Bytes,
@@ -701,7 +772,7 @@ pub static CALLS: &[Call] = &[
     },
     Call {
         name: "plan.read_back",
-        kinds: &[Num(16), Num(16), Num(16), Num(16), Num(16), Bytes],
+        kinds: &[Num(16), Num(16), Num(16), Num(16), Num(16), Num(16), Bytes],
         classes: &[0, 13, 26],
         own: |f| {
             let mut out = field::bytes(f, D).to_vec();
@@ -712,6 +783,7 @@ pub static CALLS: &[Call] = &[
     Call {
         name: "plan.wanted",
         kinds: &[
+            Num(16),
             Num(16),
             Num(16),
             Num(16),

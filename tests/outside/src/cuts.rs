@@ -93,8 +93,13 @@ fn plan(rng: &mut Rng) -> Plan {
         .collect();
     let room = 3 * steps_bound(d);
     let mut fields = device_fields(d);
+    let id_word = reading[p + 6];
     fields.push(image.into());
-    fields.push(if update { reading.into() } else { d.id.into() });
+    fields.push(if update {
+        reading.into()
+    } else {
+        id_word.into()
+    });
     fields.push(lent(room, rng).into());
     let name = if update { "plan.update" } else { "plan.fresh" };
     let request = Request::new(name, fields);

@@ -17,6 +17,7 @@ pub struct Device {
     pub row: u16,
     pub mask1: u16,
     pub mask2: u16,
+    pub idmask: u16,
 }
 
 impl Device {
@@ -27,6 +28,7 @@ impl Device {
         row: 0,
         mask1: 0,
         mask2: 0,
+        idmask: 0,
     };
 
     /// P, as a length.
@@ -50,13 +52,25 @@ impl Device {
     }
 
     pub fn lawful(&self) -> bool {
-        let ids = self.id <= WORD_MAX && self.mask1 <= WORD_MAX && self.mask2 <= WORD_MAX;
+        let words = [self.id, self.mask1, self.mask2, self.idmask];
         let row = matches!(self.row, 8 | 16 | 32);
-        ids && row
+        words.iter().all(|&w| w <= WORD_MAX)
+            && row
             && self.mask1 & CP != 0
             && self.words >= self.row
             && self.words <= PROGRAM_MAX
             && self.words.is_multiple_of(self.row)
+    }
+
+    /// Whether a number is a word that has the ID's bits wherever the ID's mask has a 1. Nothing is judged: bits of ID and mask
+    /// above the 14 count as any other.
+    pub fn fits(&self, number: u16) -> bool {
+        number <= WORD_MAX && (number ^ self.id) & self.idmask == 0
+    }
+
+    /// Whether some word fits both of two lawful devices: their IDs agree wherever both masks have a 1.
+    pub fn clashes(&self, other: &Device) -> bool {
+        (self.id ^ other.id) & self.idmask & other.idmask == 0
     }
 
     /// The mask of an entry: the record's at the two configuration words, every bit elsewhere.
@@ -97,10 +111,14 @@ pub struct Listed {
     pub name: Range<usize>,
 }
 
+/// A line with its LF taken off: six fields, or seven with the ID's mask last.
 fn table_line(line: &[u8], at: usize) -> Option<Listed> {
     let fields: Vec<&[u8]> = line.split(|&c| c == b'\t').collect();
-    let &[name, id, words, row, mask1, mask2] = fields.as_slice() else {
-        return None;
+    let (&[name, id, words, row, mask1, mask2], rest) = fields.split_first_chunk()?;
+    let idmask = match rest {
+        [] => WORD_MAX,
+        [field] => capital_word(field)?,
+        _ => return None,
     };
     if name.is_empty() || name.len() > 16 || !name.iter().all(|c| (0x20..=0x7E).contains(c)) {
         return None;
@@ -111,6 +129,7 @@ fn table_line(line: &[u8], at: usize) -> Option<Listed> {
         row: decimal(row, 32)? as u16,
         mask1: capital_word(mask1)?,
         mask2: capital_word(mask2)?,
+        idmask,
     };
     device.lawful().then_some(Listed {
         device,
@@ -118,26 +137,34 @@ fn table_line(line: &[u8], at: usize) -> Option<Listed> {
     })
 }
 
-/// The lines of a table, or nothing where it is malformed.
-pub fn table(text: &[u8]) -> Option<Vec<Listed>> {
+/// The lines of a text, or nothing where one of them breaks a rule by itself.
+pub fn lines(text: &[u8]) -> Option<Vec<Listed>> {
     let mut listed: Vec<Listed> = Vec::new();
     let mut at = 0;
     while at < text.len() {
         let length = text[at..].iter().position(|&c| c == b'\n')?;
-        let line = table_line(&text[at..at + length], at)?;
-        if listed.iter().any(|l| l.device.id == line.device.id) {
-            return None;
-        }
-        listed.push(line);
+        listed.push(table_line(&text[at..at + length], at)?);
         at += length + 1;
     }
-    (1..=LINES_MAX).contains(&listed.len()).then_some(listed)
+    Some(listed)
 }
 
-/// The table's line of an ID: 15, then 16.
-pub fn find(text: &[u8], id: u16) -> Result<Listed, u32> {
+/// The lines of a table, or nothing where it is malformed. Any two are held against each other, neighbours or not.
+pub fn table(text: &[u8]) -> Option<Vec<Listed>> {
+    let listed = lines(text)?;
+    let clash = listed.iter().enumerate().any(|(i, line)| {
+        let mut before = listed[..i].iter();
+        before.any(|l| l.device.clashes(&line.device))
+    });
+    let count = (1..=LINES_MAX).contains(&listed.len());
+    (count && !clash).then_some(listed)
+}
+
+/// The table's line that a number fits, as the line has it: 15, then 16.
+pub fn find(text: &[u8], number: u16) -> Result<Listed, u32> {
     let listed = table(text).ok_or(15u32)?;
-    listed.into_iter().find(|l| l.device.id == id).ok_or(16)
+    let fitting = |l: &Listed| l.device.fits(number);
+    listed.into_iter().find(fitting).ok_or(16)
 }
 
 /// Whether a list is a reading with that many program words.

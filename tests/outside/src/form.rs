@@ -4,7 +4,7 @@ use crate::ask::Peer;
 use crate::field::{BYTES_MAX, HEX_BYTES_MAX, LINE_MAX, WORDS_MAX};
 use crate::tally::{cut, Tally};
 
-const TINY: &str = "10752 16 8 16127 16371";
+const TINY: &str = "10752 16 8 16127 16371 16383";
 
 /// Comments: each is its own answer.
 fn comments() -> Vec<Vec<u8>> {
@@ -150,12 +150,17 @@ fn malformed() -> Vec<Vec<u8>> {
         "words.is_words 3FF 1",
         "words.is_words 3FFF00 1",
         "words.is_words 3FFF,3FFF 2",
-        "device.judge 1 2 3 4",
-        "device.judge 1 2 3 4 5 6",
-        "device.judge 65536 16 8 16127 16371",
+        "device.judge 1 2 3 4 5",
+        "device.judge 1 2 3 4 5 6 7",
+        "device.judge 65536 16 8 16127 16371 16383",
+        "device.judge 10752 16 8 16127 16371 65536",
+        "device.fits 10752 16 8 16127 16371 10752",
+        "device.fits 10752 16 8 16127 16371 16383 65536",
+        "device.fits 10752 16 8 16127 16371 16383 10752 0",
+        "device.id_fits 10752 16 8 16127 16371 16383 10752",
         "device.find_device - 65536",
-        "judge.checksum 10752 16 8 16127 16371",
-        "judge.checksum 10752 16 8 16127 -",
+        "judge.checksum 10752 16 8 16127 16371 16383",
+        "judge.checksum 10752 16 8 16127 16371 -",
         "answer",
         "quit",
         "bench.dump - -",

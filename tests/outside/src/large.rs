@@ -17,6 +17,7 @@ const BIG: Device = Device {
     row: 32,
     mask1: 0x3EFF,
     mask2: 0x3FF3,
+    idmask: 0x3FFF,
 };
 const BIG_LINE: &[u8] = b"BIG\t2A01\t32768\t32\t3EFF\t3FF3\n";
 /// The longest HEX text that is read.

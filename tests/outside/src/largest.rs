@@ -4,7 +4,7 @@
 use crate::ask::Peer;
 use crate::bench::{answer_text, stream_text, whole_image, TRIAL_LINES};
 use crate::board::OPENED_MAX;
-use crate::calls::{device_fields, parse, Request, CALLS};
+use crate::calls::{device_fields, parse, Request, CALLS, D};
 use crate::device::{Device, LINES_MAX, PROGRAM_MAX};
 use crate::field::{line, Field, Kind, BYTES_MAX, HEX_BYTES_MAX, LINE_MAX, WORDS_MAX};
 use crate::hex::{self, PROGRAM_TEXT_MAX, TEXT_MAX};
@@ -24,6 +24,7 @@ const LARGEST: Device = Device {
     row: 8,
     mask1: 0x3EFF,
     mask2: 0x3FF3,
+    idmask: WORD_MAX,
 };
 /// The largest that the programs take.
 const OPENED: Device = Device {
@@ -44,7 +45,7 @@ fn full(call: usize, backwards: bool) -> Request {
     let c = &CALLS[call];
     let mut fields: Vec<Field> = c.kinds.iter().map(|_| Field::Num(0)).collect();
     if c.takes_record() {
-        fields[..5].clone_from_slice(&device_fields(&LARGEST));
+        fields[..D].clone_from_slice(&device_fields(&LARGEST));
     }
     let lists = (0..c.kinds.len()).filter(|&i| !matches!(c.kinds[i], Kind::Num(_)));
     let mut lists: Vec<usize> = lists.collect();
@@ -203,9 +204,9 @@ fn of_libraries() -> Vec<Request> {
 fn longest_table() -> Vec<u8> {
     let others = 1..LINES_MAX as u16;
     let mut text: String = others
-        .map(|id| format!("0123456789ABCDEF\t{id:04X}\t{PROGRAM_MAX}\t32\t3EFF\t3FF3\n"))
+        .map(|id| format!("0123456789ABCDEF\t{id:04X}\t{PROGRAM_MAX}\t32\t3EFF\t3FF3\t3FFF\n"))
         .collect();
-    text += "0123456789ABCDEF\t2A01\t8192\t8\t3EFF\t3FF3\n";
+    text += "0123456789ABCDEF\t2A01\t8192\t8\t3EFF\t3FF3\t3FFF\n";
     text.into_bytes()
 }
 

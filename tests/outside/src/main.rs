@@ -14,6 +14,7 @@ mod hex;
 mod judge;
 mod large;
 mod largest;
+mod masked;
 mod model;
 mod print;
 mod refusal;
@@ -21,6 +22,7 @@ mod rng;
 mod sheet;
 mod streams;
 mod tally;
+mod tried;
 mod words;
 mod worked;
 
@@ -46,9 +48,17 @@ outside --mock                        answer requests on standard input with our
 
 /// Inputs aimed at each number of each call: above the hundred that must be seen, since an aim can miss.
 const AIMED: usize = 125;
-/// Inputs of the HEX reader aimed at some numbers. 1 is long and cannot miss; of those that can stand at many columns of a
-/// line there are enough that most columns are met.
-const AIMED_AT_HEX: [(u32, usize); 5] = [(1, 100), (2, 2_500), (7, 1_000), (8, 1_000), (9, 1_000)];
+/// Inputs aimed at some numbers. 1 of the HEX reader is long and cannot miss; of those that can stand at many columns of a line
+/// there are enough that most columns are met. Of tables there are enough that lines clash in every way, or nearly do.
+const AIMED_AT: [(&str, u32, usize); 7] = [
+    (HEX_READER, 1, 100),
+    (HEX_READER, 2, 2_500),
+    (HEX_READER, 7, 1_000),
+    (HEX_READER, 8, 1_000),
+    (HEX_READER, 9, 1_000),
+    ("device.judge_table", 0, 500),
+    ("device.judge_table", 15, 1_000),
+];
 /// Inputs for large devices, of each number: few, since they are long.
 const LARGE: usize = 3;
 /// Of the HEX reader more for those that a record across 64 KiB can have.
@@ -151,11 +161,10 @@ fn manner(call: usize, rng: &mut Rng) -> Manner {
 
 /// How many inputs are aimed at a number of a call.
 fn aims(call: &str, class: u32) -> usize {
-    let special = AIMED_AT_HEX.iter().find(|(number, _)| *number == class);
-    match special {
-        Some((_, count)) if call == HEX_READER => *count,
-        _ => AIMED,
-    }
+    let special = AIMED_AT
+        .iter()
+        .find(|(name, number, _)| (*name, *number) == (call, class));
+    special.map_or(AIMED, |(.., count)| *count)
 }
 
 /// How many of them are for a large device, beside the others.

@@ -14,7 +14,7 @@ fn line(out: &mut Vec<u8>, fields: &[u16]) {
     out.push(b'\n');
 }
 
-/// The sheet of a reading.
+/// The sheet of a reading, with the record's ID on line 1.
 pub fn text(d: &Device, reading: &[u16]) -> Vec<u8> {
     let p = d.p();
     let mut out = Vec::new();
@@ -41,11 +41,14 @@ pub fn first_line(text: &[u8]) -> Option<u16> {
     capital_word(&text[..end]).filter(|&id| id <= WORD_MAX)
 }
 
-/// The reading of a sheet, or nothing where it is malformed or another device's (14).
+/// The reading of a sheet, or nothing where it is malformed or its line 1 does not fit the device (14).
 pub fn reading(d: &Device, text: &[u8]) -> Option<Vec<u16>> {
     let body = text.strip_suffix(b"\n")?;
     let mut lines = body.split(|&c| c == b'\n');
-    if fields(lines.next()?)? != [d.id] {
+    let &[id] = fields(lines.next()?)?.as_slice() else {
+        return None;
+    };
+    if !d.fits(id) {
         return None;
     }
     let mut reading = Vec::new();

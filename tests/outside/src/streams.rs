@@ -185,7 +185,7 @@ pub fn steps_bound(d: &Device) -> usize {
 /// 22, 23 and 24 of a sound reading under a sound image.
 pub fn update_refusal(d: &Device, image: &[u16], reading: &[u16]) -> Option<u32> {
     let p = d.p();
-    if reading[p + 6] != d.id {
+    if !d.fits(reading[p + 6]) {
         return Some(22);
     }
     if d.protected(reading) {
@@ -231,7 +231,7 @@ pub fn fresh(d: &Device, image: &[u16], id_word: u16, out: &mut [u8]) -> (u32, u
     if !is_image(d.p(), image) {
         return (20, 0);
     }
-    if id_word != d.id {
+    if !d.fits(id_word) {
         return (22, 0);
     }
     put(&fresh_stream(d, &wanted_blank(d, image)), out)

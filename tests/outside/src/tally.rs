@@ -2,6 +2,7 @@
 
 use crate::board::OPENED_MAX;
 use crate::calls::{Request, CALLS, HEX_READER};
+use crate::tried;
 use std::collections::{BTreeMap, BTreeSet};
 
 /// Differences that are shown in full; the others are counted.
@@ -87,6 +88,22 @@ impl Tally {
             *self.failed_of.entry(name).or_default() += 1;
         }
         self.check(same, || difference(request, &expected, answer));
+        if let Some(text) = request.table() {
+            self.try_table(name, text, answer);
+        }
+    }
+
+    /// A table's answer, and the rule that our own goes by, held against what trying every word says of it.
+    fn try_table(&mut self, name: &str, text: &[u8], answer: Option<&[u8]>) {
+        let tried = tried::table(text);
+        self.check(tried.as_ruled, || {
+            format!("the rule of two lines that clash: {:?}", cut(text, 0))
+        });
+        let number = answer.and_then(|a| a.split(|&c| c == b' ').nth(1));
+        let said = number.map(|n| n != b"15");
+        self.check(said == Some(tried.sound), || {
+            format!("{name}: every word tried on {:?}", cut(text, 0))
+        });
     }
 
     /// The table of calls and numbers; a number that was seen too seldom is a failure.

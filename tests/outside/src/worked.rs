@@ -5,12 +5,12 @@ use crate::board::OPENED_MAX;
 use crate::calls::{device_fields, Request};
 use crate::device::{is_image, Device};
 use crate::field::{line, Field};
-use crate::gen::{device_of_size, image_for, large_device, reading_for};
+use crate::gen::{device_of_size, fitting, image_for, large_device, reading_for, with_id};
 use crate::model::{self, Run};
 use crate::rng::Rng;
 use crate::tally::{cut, difference, Tally};
 use crate::words::{NOT_GIVEN, WORD_MAX};
-use crate::{bench, device, hex, judge, large, sheet, streams};
+use crate::{bench, device, hex, judge, large, masked, sheet, streams};
 
 pub const TINY: Device = Device {
     id: 0x2A00,
@@ -18,6 +18,7 @@ pub const TINY: Device = Device {
     row: 8,
     mask1: 0x3EFF,
     mask2: 0x3FF3,
+    idmask: 0x3FFF,
 };
 const F1459: Device = Device {
     id: 0x3023,
@@ -25,6 +26,7 @@ const F1459: Device = Device {
     row: 32,
     mask1: 0x3EFF,
     mask2: 0x3FF3,
+    idmask: 0x3FFF,
 };
 pub const TINY_LINE: &[u8] = b"TINY\t2A00\t16\t8\t3EFF\t3FF3\n";
 pub const END: &str = ":00000001FF\n";
@@ -712,6 +714,7 @@ fn cases() -> Vec<Case> {
     all.extend(spare_cases());
     all.extend(bench_cases());
     all.extend(large::cases());
+    all.extend(masked::cases());
     let table: Vec<u8> = b"PIC16F1459\t3023\t8192\t32\t3EFF\t3FF3\n".to_vec();
     let mut found = vec![number(0)];
     found.extend(device_fields(&F1459));
@@ -793,23 +796,23 @@ pub fn round_trips(rng: &mut Rng, tally: &mut Tally) {
         tally.check(is_image(d.p(), &image), || {
             "an image that is none".to_string()
         });
-        texts_trip(&d, &board, &image, tally);
+        texts_trip(&d, &board, &image, rng, tally);
         update_trip(&d, &board, &image, tally);
         fresh_trip(&d, &image, rng, tally);
         steps_trip(&d, &board, &image, rng, tally);
-        rehearsal_trip(&d, &board, &image, tally);
+        rehearsal_trip(&d, &board, &image, rng, tally);
     }
 }
 
 /// The device as a line of a table.
 fn table_line(d: &Device) -> String {
     format!(
-        "a b\t{:04X}\t{}\t{}\t{:04X}\t{:04X}\n",
-        d.id, d.words, d.row, d.mask1, d.mask2
+        "a b\t{:04X}\t{}\t{}\t{:04X}\t{:04X}\t{:04X}\n",
+        d.id, d.words, d.row, d.mask1, d.mask2, d.idmask
     )
 }
 
-fn texts_trip(d: &Device, board: &[u16], image: &[u16], tally: &mut Tally) {
+fn texts_trip(d: &Device, board: &[u16], image: &[u16], rng: &mut Rng, tally: &mut Tally) {
     let read = hex::image(d, &hex::text(d, image), hex::TEXT_MAX);
     tally.check(read.as_deref() == Ok(image), || {
         format!("HEX written and read: {d:?}")
@@ -822,16 +825,19 @@ fn texts_trip(d: &Device, board: &[u16], image: &[u16], tally: &mut Tally) {
     };
     let read = hex::image(d, &hex::text(d, &whole), most);
     tally.check(read == Ok(whole), || format!("a dump read: {d:?}"));
-    let read = sheet::reading(d, &sheet::text(d, board));
-    tally.check(read.as_deref() == Some(board), || {
-        format!("a sheet written and read: {d:?}")
-    });
+    let word = fitting(d, rng);
+    for id in [d.id, word] {
+        let read = sheet::reading(d, &with_id(&sheet::text(d, board), id));
+        tally.check(read.as_deref() == Some(board), || {
+            format!("a sheet written and read under {id:04X}: {d:?}")
+        });
+    }
     let size = sheet::text(d, board).len();
     tally.check(size == 5 + 45 * d.p() / 8 + 50, || {
         format!("a sheet's length: {size}")
     });
     let text = table_line(d);
-    let found = device::find(text.as_bytes(), d.id).map(|l| l.device);
+    let found = device::find(text.as_bytes(), word).map(|l| l.device);
     tally.check(found == Ok(*d), || format!("a table's line: {text:?}"));
     let same = judge::verify(d, board, board);
     tally.check(same == (0, 0, 0), || {
@@ -914,10 +920,11 @@ fn fresh_trip(d: &Device, image: &[u16], rng: &mut Rng, tally: &mut Tally) {
     });
 }
 
-/// A printed stream, played, leaves the sheet that was wanted; a board that is too large has none.
-fn rehearsal_trip(d: &Device, board: &[u16], image: &[u16], tally: &mut Tally) {
+/// A printed stream, played, leaves the sheet that was wanted, line 1 as it was; a board that is too large has none.
+fn rehearsal_trip(d: &Device, board: &[u16], image: &[u16], rng: &mut Rng, tally: &mut Tally) {
     let table = table_line(d).into_bytes();
-    let (board, file) = (sheet::text(d, board), hex::text(d, image));
+    let board = with_id(&sheet::text(d, board), fitting(d, rng));
+    let file = hex::text(d, image);
     if d.words > OPENED_MAX {
         let number = bench::update(&table, &board, &file).number;
         tally.check(number == 17, || format!("no 17 but {number}: {d:?}"));
@@ -926,13 +933,15 @@ fn rehearsal_trip(d: &Device, board: &[u16], image: &[u16], tally: &mut Tally) {
     let stream = bench::update(&table, &board, &file).text;
     let left = bench::trial(&table, &board, &stream).text;
     let wanted = bench::wanted(&table, &board, &file);
-    tally.check(wanted.number == 0 && left == wanted.text, || {
+    let same = left == wanted.text && left[..5] == board[..5];
+    tally.check(wanted.number == 0 && same, || {
         format!("an update, rehearsed: {d:?}")
     });
     let stream = bench::fresh(&table, &board, &file).text;
     let left = bench::trial(&table, &board, &stream).text;
     let wanted = bench::wanted_fresh(&table, &board, &file);
-    tally.check(wanted.number == 0 && left == wanted.text, || {
+    let same = left == wanted.text && left[..5] == board[..5];
+    tally.check(wanted.number == 0 && same, || {
         format!("a fresh programming, rehearsed: {d:?}")
     });
 }

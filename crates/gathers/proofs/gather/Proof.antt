@@ -50,7 +50,8 @@ read-id-requires c κs = search needs
 
 put-sheet-requires : tie.Need-put-sheet-requires
 put-sheet-requires c κs = (
-  opened-serves _ _ _ (c .before .before .before .before .before .before .before .before .open-record .ensures .0) (c .before .before .before .before .before .before .if1 .left) _ (c .before .before .before .before .before .before .before .before .open-record .ensures .1),
+  opened-serves _ _ _ (c .before .before .before .before .before .before .before .before .open-record .ensures .0)
+      (c .before .before .before .before .before .before .if1 .left) _ (c .before .before .before .before .before .before .before .before .open-record .ensures .1),
   sym (c .before .before .before .lines-ok .ensures) ∙ c .before .before .if2 .taken,
   first-small _ _ (c .before .read-id .ensures),
 )
@@ -59,8 +60,12 @@ same-length-3 : tie.Need-same-length-3
 same-length-3 c = search needs
 
 returns-3 : tie.Need-returns-3
-returns-3 c = printed _ (gather-short _ _ _) (prints-as _ _ _ _ _ (gather-found _ _ _ _ (c .before .before .before .before .before .before .before .before .before .before .before .open-record .ensures .0) (c .before .before .before .before .before .before .before .before .before .if1 .left) _ (c .before .before .before .before .before .before .before .before .before .before .before .open-record .ensures .1)
-    (sym (c .before .before .before .before .before .before .lines-ok .ensures) ∙ c .before .before .before .before .before .if2 .taken) _ (c .before .before .before .before .read-id .ensures)) (c .before .before .put-sheet .ensures))
+returns-3 c = printed _ (gather-short _ _ _) (prints-as _ _ _ _ _ (gather-found _ _ _ _
+    (c .before .before .before .before .before .before .before .before .before .before .before .open-record .ensures .0)
+    (c .before .before .before .before .before .before .before .before .before .if1 .left) _
+    (c .before .before .before .before .before .before .before .before .before .before .before .open-record .ensures .1)
+    (sym (c .before .before .before .before .before .before .lines-ok .ensures) ∙ c .before .before .before .before .before .if2 .taken) _
+    (c .before .before .before .before .read-id .ensures)) (c .before .before .put-sheet .ensures))
 
 pub gather-spec : {M : Type 1} → statement M
 gather-spec =

@@ -24,7 +24,12 @@ slice-aggregate-store : tie.Need-slice-aggregate-store
 slice-aggregate-store c = sym (served-long (c .before .before .before .before .args .d) (c .before .before .before .before .pre .0) 0)
 
 store-requires : tie.Need-store-requires
-store-requires c κs = (served-most (c .before .before .before .before .args .d) (c .before .before .before .before .pre .0), served-long (c .before .before .before .before .args .d) (c .before .before .before .before .pre .0) 0, answers-sound _ _ (c .before .before .before .before .pre .1))
+store-requires c κs = (
+  served-most (c .before .before .before .before .args .d) (c .before .before .before .before .pre .0),
+  served-long
+      (c .before .before .before .before .args .d) (c .before .before .before .before .pre .0) 0,
+  answers-sound _ _ (c .before .before .before .before .pre .1),
+)
 
 array-share-prefix-words : tie.Need-array-share-prefix-words
 array-share-prefix-words c = front-room (c .before .before .before .before .before .before .args .d) (c .before .before .before .before .before .before .pre .0) _
@@ -43,7 +48,12 @@ write-sheet-requires c κs = search needs
 array-share-prefix-sheet : tie.Need-array-share-prefix-sheet
 array-share-prefix-sheet c = omega (
   arith,
-  sheet-short (c .before .before .before .before .before .before .before .before .before .before .before .args .d) (c .before .before .before .before .before .before .before .before .before .before .before .pre .0) _ (c .before .before .before .before .before .before .before .before .before .before .before .pre .1) _ _ (c .before .before .before .before .before .before .store .ensures) (c .before .before .before .before .before .before .before .before .before .before .before .args .id) (c .before .before .before .before .before .before .before .before .before .before .before .pre .2) _ (c .before .before .write-sheet .ensures .0),
+  sheet-short (c .before .before .before .before .before .before .before .before .before .before .before .args .d)
+      (c .before .before .before .before .before .before .before .before .before .before .before .pre .0) _
+      (c .before .before .before .before .before .before .before .before .before .before .before .pre .1) _ _
+      (c .before .before .before .before .before .before .store .ensures)
+      (c .before .before .before .before .before .before .before .before .before .before .before .args .id)
+      (c .before .before .before .before .before .before .before .before .before .before .before .pre .2) _ (c .before .before .write-sheet .ensures .0),
 )
 
 slice-aggregate-text : tie.Need-slice-aggregate-text
@@ -56,7 +66,13 @@ same-length : tie.Need-same-length
 same-length c = search needs
 
 returns : tie.Need-returns
-returns c = prints-as _ _ _ _ _ (sheet-front (c .before .before .before .before .before .before .before .before .before .before .before .before .before .before .before .args .d) (c .before .before .before .before .before .before .before .before .before .before .before .before .before .before .before .pre .0) _ (c .before .before .before .before .before .before .before .before .before .before .before .before .before .before .before .pre .1) _ _ (c .before .before .before .before .before .before .before .before .before .before .store .ensures) (c .before .before .before .before .before .before .before .before .before .before .before .before .before .before .before .args .id) (c .before .before .before .before .before .before .before .before .before .before .before .before .before .before .before .pre .2) _
+returns c = prints-as _ _ _ _ _ (sheet-front
+    (c .before .before .before .before .before .before .before .before .before .before .before .before .before .before .before .args .d)
+    (c .before .before .before .before .before .before .before .before .before .before .before .before .before .before .before .pre .0) _
+    (c .before .before .before .before .before .before .before .before .before .before .before .before .before .before .before .pre .1) _ _
+    (c .before .before .before .before .before .before .before .before .before .before .store .ensures)
+    (c .before .before .before .before .before .before .before .before .before .before .before .before .before .before .before .args .id)
+    (c .before .before .before .before .before .before .before .before .before .before .before .before .before .before .before .pre .2) _
     (c .before .before .before .before .before .before .write-sheet .ensures .0) _ (c .before .before .before .before .before .before .write-sheet .ensures .1)) (c .before .before .text .ensures)
 
 pub put-sheet-spec : {M : Type 1} → statement M

@@ -85,8 +85,13 @@ returns-3 : tie.Need-returns-3
 returns-3 c =
     let o = c .before .before .before .before .before .before .before .before .before .before .before .before .before .before .before .before .before .open-board .ensures in
     printed _ (trial-short _ _ _) (prints-as _ _ _ _ _
-    (trial-run _ _ _ _ (o .0) (c .before .before .before .before .before .before .before .before .before .before .before .before .before .before .before .if1 .left) _ _ _ _ (c .before .before .before .before .before .before .before .before .before .before .before .before .before .read-stream .ensures) (c .before .before .before .before .before .before .before .before .before .before .if2 .left) (length-replicate {A = ℕ} 98304 0) _ _
-    (board-opened _ _ _ (o .0) (c .before .before .before .before .before .before .before .before .before .before .before .before .before .before .before .if1 .left) _ (o .1) _ (o .2)) _ (c .before .before .before .before .before .before .read-id .ensures)) (c .before .before .put-run .ensures))
+    (trial-run _ _ _ _ (o .0)
+    (c .before .before .before .before .before .before .before .before .before .before .before .before .before .before .before .if1 .left) _ _ _ _
+    (c .before .before .before .before .before .before .before .before .before .before .before .before .before .read-stream .ensures)
+    (c .before .before .before .before .before .before .before .before .before .before .if2 .left) (length-replicate {A = ℕ} 98304 0) _ _
+    (board-opened _ _ _ (o .0)
+    (c .before .before .before .before .before .before .before .before .before .before .before .before .before .before .before .if1 .left) _ (o .1) _ (o .2)) _
+    (c .before .before .before .before .before .before .read-id .ensures)) (c .before .before .put-run .ensures))
 
 pub trial-spec : {M : Type 1} → statement M
 trial-spec =

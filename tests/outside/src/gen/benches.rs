@@ -1,8 +1,9 @@
 //! Inputs for what the programs print, and for the boards that they open.
 
 use super::boards::{
-    also, bad_first_line, bad_sheet, bad_table, enlarged, image_for, other_bit, other_spare,
-    program_device, reading_for, table_with, table_without,
+    also, bad_first_line, bad_sheet, bad_table, choosy, enlarged, fitting, image_for, no_word,
+    other_bit, other_spare, other_word, program_device, reading_for, table_with, table_without,
+    with_id,
 };
 use super::plans::{bad_step, put_in, sound_stream, want_a_bit};
 use super::{hexes, lent, number, room};
@@ -23,11 +24,19 @@ fn after_17(name: &str, rng: &mut Rng) -> u32 {
     rng.pick(&numbers)
 }
 
+/// Whether the program makes a stream for the board, or what one leaves: only these hold 8006h against the record.
+fn makes_stream(name: &str) -> bool {
+    matches!(name, "update" | "fresh" | "wanted" | "wanted_fresh")
+}
+
 pub fn bench(name: &str, aim: u32, rng: &mut Rng) -> Vec<Field> {
-    let d = program_device(rng);
+    let mut d = program_device(rng);
     // A board that is too large has files of a small one, sound or not: no program looks at them.
     let large = aim == 17;
     let aim = if large { after_17(name, rng) } else { aim };
+    if aim == 22 {
+        d = choosy(&d, rng);
+    }
     let protected = match (name, aim) {
         ("update" | "wanted", 0 | 24) => false,
         ("update" | "wanted" | "dump", 23) | (_, 41) => true,
@@ -35,12 +44,12 @@ pub fn bench(name: &str, aim: u32, rng: &mut Rng) -> Vec<Field> {
         _ => rng.chance(30),
     };
     let mut reading = reading_for(&d, protected, rng);
+    // 14 is of the wanted sheet alone, of the board's alone, or of both.
+    let bad_wanted = name == "verify" && aim == 14 && rng.chance(60);
     // The third file is made with the reading still sound, and may change it to suit.
     let third = match name {
-        "update" | "fresh" | "wanted" | "wanted_fresh" => {
-            Some(hex_file(&d, &mut reading, aim, rng))
-        }
-        "verify" => Some(wanted_file(&d, &reading, aim, rng)),
+        _ if makes_stream(name) => Some(hex_file(&d, &mut reading, aim, rng)),
+        "verify" => Some(wanted_file(&d, &reading, aim == 40, bad_wanted, rng)),
         "trial" => Some(stream_file(&d, aim, rng)),
         "gather" => Some(words_file(&d, &reading, aim, rng)),
         _ => None,
@@ -48,15 +57,20 @@ pub fn bench(name: &str, aim: u32, rng: &mut Rng) -> Vec<Field> {
     if aim == 22
         || (aim != 0 && aim < 12 && rng.chance(20))
         || (matches!(name, "update" | "wanted") && also(aim, &[14, 15, 16], rng))
+        || (!makes_stream(name) && rng.chance(20))
     {
-        reading[d.p() + 6] ^= 1 << rng.below(14);
+        let word = other_word(&d, rng);
+        reading[d.p() + 6] = word.unwrap_or(reading[d.p() + 6]);
     }
-    let text = sheet::text(&d, &reading);
+    // Line 1 fits, as 8006h mostly does; nothing makes them the same word.
+    let id = fitting(&d, rng);
+    let text = with_id(&sheet::text(&d, &reading), id);
     let (table, board) = if large {
         too_large(&d, &text, aim == 14, rng)
     } else {
         let alone = matches!(name, "readback" | "gather");
-        first_files(&d, &text, aim, alone, rng)
+        let aim = if bad_wanted && rng.chance(70) { 0 } else { aim };
+        first_files(&d, id, &text, aim, alone, rng)
     };
     let mut fields: Vec<Field> = vec![table.clone().into(), board.clone().into()];
     let file = third.clone().unwrap_or_default();
@@ -83,16 +97,20 @@ pub fn bench(name: &str, aim: u32, rng: &mut Rng) -> Vec<Field> {
 pub fn board(name: &str, aim: u32, rng: &mut Rng) -> Vec<Field> {
     let mut d = program_device(rng);
     if rng.chance(30) {
-        // A first line that is malformed reads as this ID.
-        d.id = 0;
+        // A first line that is malformed reads as 0, which fits then.
+        d.id &= !d.idmask;
     }
-    let reading = reading_for(&d, rng.chance(30), rng);
-    let text = sheet::text(&d, &reading);
+    let mut reading = reading_for(&d, rng.chance(30), rng);
+    if rng.chance(20) {
+        reading[d.p() + 6] = rng.word();
+    }
+    let id = fitting(&d, rng);
+    let text = with_id(&sheet::text(&d, &reading), id);
     let alone = name == "open_record";
     let (table, board) = if aim == 17 {
         too_large(&d, &text, rng.chance(30), rng)
     } else {
-        first_files(&d, &text, aim, alone, rng)
+        first_files(&d, id, &text, aim, alone, rng)
     };
     let mut fields: Vec<Field> = vec![table.into(), board.into()];
     if !alone {
@@ -116,9 +134,10 @@ fn too_large(d: &Device, text: &[u8], bad_rest: bool, rng: &mut Rng) -> (Vec<u8>
     (table_with(&large, rng), board)
 }
 
-/// Table and sheet, with 14, 15 or 16 in them where that is aimed at.
+/// Table and sheet, with 14, 15 or 16 in them where that is aimed at; `id` is what the sheet has on line 1.
 fn first_files(
     d: &Device,
+    id: u16,
     text: &[u8],
     aim: u32,
     line_alone: bool,
@@ -142,11 +161,11 @@ fn first_files(
             } else {
                 text.to_vec()
             };
-            (table_without(&any_size, rng), board)
+            (table_without(&any_size, id, rng), board)
         }
         14 if line_alone || rng.chance(40) => {
             let table = if rng.chance(30) {
-                table_without(&any_size, rng)
+                table_without(&any_size, id, rng)
             } else {
                 table_with(&any_size, rng)
             };
@@ -176,7 +195,7 @@ fn hex_file(d: &Device, reading: &mut [u16], aim: u32, rng: &mut Rng) -> Vec<u8>
     hexes::text(d, &image, lines, PROGRAM_TEXT_MAX, BYTES_MAX, rng)
 }
 
-fn wanted_file(d: &Device, reading: &[u16], aim: u32, rng: &mut Rng) -> Vec<u8> {
+fn wanted_file(d: &Device, reading: &[u16], differs: bool, bad: bool, rng: &mut Rng) -> Vec<u8> {
     let p = d.p();
     let mut wanted = reading.to_vec();
     if d.protected(reading) && rng.chance(50) {
@@ -184,7 +203,7 @@ fn wanted_file(d: &Device, reading: &[u16], aim: u32, rng: &mut Rng) -> Vec<u8> 
         wanted[i] = rng.word();
     }
     wanted[p + rng.between(4, 6)] = rng.word();
-    if aim == 40 {
+    if differs {
         for _ in 0..rng.pick(&[1, 1, 3, 30]) {
             let judged = if d.protected(reading) { p } else { 0 };
             let at = if rng.chance(20) {
@@ -200,17 +219,12 @@ fn wanted_file(d: &Device, reading: &[u16], aim: u32, rng: &mut Rng) -> Vec<u8> 
     if rng.chance(60) {
         other_spare(d, &mut wanted, rng);
     }
-    let text = sheet::text(d, &wanted);
-    if aim == 14 && rng.chance(50) {
+    // Its line 1 need only fit, too.
+    let text = with_id(&sheet::text(d, &wanted), fitting(d, rng));
+    if bad {
         match rng.below(4) {
             0 => bad_first_line(&text, rng),
-            1 => sheet::text(
-                &Device {
-                    id: d.id ^ 1 << rng.below(14),
-                    ..*d
-                },
-                &wanted,
-            ),
+            1 => with_id(&text, other_word(d, rng).unwrap_or(no_word(d, rng))),
             _ => bad_sheet(d, &text, rng),
         }
     } else {
@@ -245,6 +259,10 @@ fn bad_line(line: &[u8], rng: &mut Rng) -> Vec<u8> {
 /// Words that came back; a line in them that is none, a word above 3FFF, or some too few or too many, is 21.
 fn words_file(d: &Device, reading: &[u16], aim: u32, rng: &mut Rng) -> Vec<u8> {
     let mut words = reading.to_vec();
+    if rng.chance(20) {
+        // 8006h is not held against the record here.
+        words[d.p() + 6] = rng.word();
+    }
     let spoilt = aim == 21 || also(aim, &[14, 15, 16], rng);
     if spoilt && rng.chance(40) {
         match rng.below(4) {

@@ -3,7 +3,7 @@
 use super::{lent, lent_words, number, room};
 use crate::board::OPENED_MAX;
 use crate::calls::device_fields;
-use crate::device::{Device, CP, PROGRAM_MAX};
+use crate::device::{Device, CP, LINES_MAX, PROGRAM_MAX};
 use crate::field::Field;
 use crate::rng::Rng;
 use crate::sheet as own;
@@ -20,6 +20,19 @@ fn mask(family: u16, rng: &mut Rng) -> u16 {
     }
 }
 
+/// A mask of the ID: often whole; without the low five bits, as a maker's that has the revision there; without one bit, with one
+/// alone or none; any.
+fn id_mask(rng: &mut Rng) -> u16 {
+    match rng.below(12) {
+        0..=4 => WORD_MAX,
+        5 => 0,
+        6 | 7 => 0x3FE0,
+        8 | 9 => WORD_MAX ^ (1 << rng.below(14)),
+        10 => 1 << rng.below(14),
+        _ => rng.word(),
+    }
+}
+
 /// A lawful device with at most so many rows; `rows` is not 0.
 pub fn device_of_size(rows: usize, rng: &mut Rng) -> Device {
     let row = rng.pick(&[8u16, 16, 32]);
@@ -31,7 +44,50 @@ pub fn device_of_size(rows: usize, rng: &mut Rng) -> Device {
         row,
         mask1: mask(0x3EFF, rng) | CP,
         mask2: mask(0x3FF3, rng),
+        idmask: id_mask(rng),
     }
+}
+
+/// A word that fits the device: its bits outside the ID's mask are the ID's, the opposite, all of one kind or any.
+pub fn fitting(d: &Device, rng: &mut Rng) -> u16 {
+    let any = rng.word();
+    let free = rng.pick(&[d.id, d.id, !d.id, 0, WORD_MAX, any, any, any]);
+    WORD_MAX & ((d.id & d.idmask) | (free & !d.idmask))
+}
+
+/// A bit of a mask of words; 0 where it has none.
+fn one_bit(mask: u16, rng: &mut Rng) -> u16 {
+    let bits: Vec<u16> = (0..14)
+        .map(|k| 1 << k)
+        .filter(|bit| mask & bit != 0)
+        .collect();
+    if bits.is_empty() {
+        0
+    } else {
+        rng.pick(&bits)
+    }
+}
+
+/// A word that does not fit the device, often for one bit alone; nothing where every word fits.
+pub fn other_word(d: &Device, rng: &mut Rng) -> Option<u16> {
+    let one = one_bit(d.idmask, rng);
+    let more = rng.word() & d.idmask & !one;
+    let turned = one | if rng.chance(30) { more } else { 0 };
+    (turned != 0).then(|| fitting(d, rng) ^ turned)
+}
+
+/// A number that is no word: one that fits but for what it has above 3FFFh.
+pub fn no_word(d: &Device, rng: &mut Rng) -> u16 {
+    fitting(d, rng) | rng.pick(&[0x4000, 0x8000, 0xC000])
+}
+
+/// The device with some bit in its ID's mask, so that there are words that do not fit it.
+pub fn choosy(d: &Device, rng: &mut Rng) -> Device {
+    let mut d = *d;
+    if d.idmask == 0 {
+        d.idmask = 1 << rng.below(14);
+    }
+    d
 }
 
 /// A lawful device whose program space holds the longest record, and is not much larger.
@@ -101,7 +157,7 @@ pub fn unlawful(d: &Device, rng: &mut Rng) -> Device {
     let mut bad = *d;
     while bad.lawful() {
         for _ in 0..rng.between(1, 2) {
-            match rng.below(9) {
+            match rng.below(10) {
                 0 => bad.id = rng.pick(&[0x4000, 0x4001, 0x8000, 0xFFFF]) | rng.word(),
                 1 => bad.row = rng.pick(&[0, 1, 2, 4, 7, 9, 24, 31, 33, 48, 64, 256, 65_535]),
                 2 => bad.words = 0,
@@ -116,6 +172,7 @@ pub fn unlawful(d: &Device, rng: &mut Rng) -> Device {
                 5 => bad.mask1 &= !CP,
                 6 => bad.mask1 |= 0x4000 << rng.below(2),
                 7 => bad.mask2 |= 0x4000 << rng.below(2),
+                8 => bad.idmask |= rng.pick(&[0x4000, 0x8000, 0xC000]),
                 // P below R, and a multiple of every smaller power of two.
                 _ => bad.words = bad.row / 2,
             }
@@ -124,7 +181,7 @@ pub fn unlawful(d: &Device, rng: &mut Rng) -> Device {
     bad
 }
 
-/// A reading of the device, its word 8006h the record's, protected or not.
+/// A reading of the device, its word 8006h one that fits, protected or not.
 pub fn reading_for(d: &Device, protected: bool, rng: &mut Rng) -> Vec<u16> {
     let p = d.p();
     let blank = rng.below(4);
@@ -135,7 +192,7 @@ pub fn reading_for(d: &Device, protected: bool, rng: &mut Rng) -> Vec<u16> {
             _ => rng.word(),
         })
         .collect();
-    reading[p + 6] = d.id;
+    reading[p + 6] = fitting(d, rng);
     if protected {
         reading[p + 7] &= !CP;
     } else {
@@ -195,13 +252,7 @@ pub fn other_spare(d: &Device, list: &mut [u16], rng: &mut Rng) {
 
 /// One bit turned in a word that is judged: a difference that counts. Nothing where the mask has no bit.
 pub fn other_bit(d: &Device, list: &mut [u16], at: usize, rng: &mut Rng) {
-    let bits: Vec<u16> = (0..14)
-        .map(|k| 1 << k)
-        .filter(|bit| d.mask(at) & bit != 0)
-        .collect();
-    if !bits.is_empty() {
-        list[at] ^= rng.pick(&bits);
-    }
+    list[at] ^= one_bit(d.mask(at), rng);
 }
 
 /// The image with something that no image has.
@@ -242,60 +293,124 @@ fn name(rng: &mut Rng) -> Vec<u8> {
     (0..length).map(|_| rng.between(0x20, 0x7E) as u8).collect()
 }
 
-fn table_line(name: &[u8], d: &Device) -> Vec<u8> {
-    let rest = format!(
-        "\t{:04X}\t{}\t{}\t{:04X}\t{:04X}\n",
+/// A line of six fields where that will do, or of seven.
+fn table_line(name: &[u8], d: &Device, rng: &mut Rng) -> Vec<u8> {
+    let mut rest = format!(
+        "\t{:04X}\t{}\t{}\t{:04X}\t{:04X}",
         d.id, d.words, d.row, d.mask1, d.mask2
     );
-    [name, rest.as_bytes()].concat()
+    if d.idmask != WORD_MAX || rng.chance(50) {
+        rest += &format!("\t{:04X}", d.idmask);
+    }
+    [name, rest.as_bytes(), b"\n"].concat()
 }
 
-/// The lines of a sound table with the device in it.
-fn table_lines(d: &Device, rng: &mut Rng) -> Vec<Vec<u8>> {
+/// The ID's bits wherever both masks have a 1, and any others: some word fits the device and this ID under the other mask.
+fn agreeing(d: &Device, idmask: u16, rng: &mut Rng) -> u16 {
+    let both = d.idmask & idmask;
+    (d.id & both) | (rng.word() & !both)
+}
+
+/// A device that no word fits together with one of these; often a single bit parts it from one of them. Nothing where none is
+/// found soon.
+fn beside(listed: &[Device], rng: &mut Rng) -> Option<Device> {
+    for _ in 0..30 {
+        // Also larger than the programs take: only the board's own line counts for that.
+        let mut other = device_of_any_size(rng);
+        if rng.chance(40) {
+            let near = rng.pick(listed);
+            let bit = one_bit(near.idmask & other.idmask, rng);
+            other.id = agreeing(&near, other.idmask, rng) ^ bit;
+        }
+        if !listed.iter().any(|l| l.clashes(&other)) {
+            return Some(other);
+        }
+    }
+    None
+}
+
+/// The devices of a sound table with this one among them.
+fn table_devices(d: &Device, rng: &mut Rng) -> Vec<Device> {
     let count = match rng.below(8) {
-        0 => 64,
-        1 => rng.between(1, 63),
+        0 => LINES_MAX,
+        1 => rng.between(1, LINES_MAX - 1),
         _ => rng.between(1, 4),
     };
-    let place = rng.below(count);
-    let mut ids = vec![d.id];
-    (0..count)
-        .map(|i| {
-            if i == place {
-                return table_line(&name(rng), d);
-            }
-            // Also larger than the programs take: only the board's own line counts for that.
-            let mut other = device_of_any_size(rng);
-            while ids.contains(&other.id) {
-                other.id = rng.word();
-            }
-            ids.push(other.id);
-            table_line(&name(rng), &other)
-        })
-        .collect()
+    let mut listed = vec![*d];
+    while listed.len() < count {
+        let Some(other) = beside(&listed, rng) else {
+            break;
+        };
+        listed.push(other);
+    }
+    let place = rng.below(listed.len());
+    listed.swap(0, place);
+    listed
+}
+
+/// The lines of a table; at times with names as long as can be.
+fn table_lines(listed: &[Device], rng: &mut Rng) -> Vec<Vec<u8>> {
+    let long = rng.chance(20);
+    let mut line = |d| {
+        let name = if long {
+            b"0123456789ABCDEF".to_vec()
+        } else {
+            name(rng)
+        };
+        table_line(&name, d, rng)
+    };
+    listed.iter().map(&mut line).collect()
 }
 
 pub fn table_with(d: &Device, rng: &mut Rng) -> Vec<u8> {
-    table_lines(d, rng).concat()
+    let listed = table_devices(d, rng);
+    table_lines(&listed, rng).concat()
 }
 
-/// A sound table that has another ID in place of the device's.
-pub fn table_without(d: &Device, rng: &mut Rng) -> Vec<u8> {
-    let other = Device {
-        id: d.id ^ 1 << rng.below(14),
-        ..*d
+/// A sound table of which a word fits no line: in the device's place stands one that a bit or more part from it.
+pub fn table_without(d: &Device, word: u16, rng: &mut Rng) -> Vec<u8> {
+    let mut other = choosy(d, rng);
+    other.id = word;
+    other.id = other_word(&other, rng).expect("a mask with a bit");
+    let mut listed = table_devices(&other, rng);
+    listed.retain(|l| !l.fits(word));
+    table_lines(&listed, rng).concat()
+}
+
+/// A device that some word fits together with this one, mostly under another ID; at times no bit is in both masks.
+fn clashing(d: &Device, rng: &mut Rng) -> Device {
+    let mut other = device_of_any_size(rng);
+    other.idmask = match rng.below(5) {
+        0 => WORD_MAX & !d.idmask,
+        1 => rng.word(),
+        _ => other.idmask,
     };
-    let lines = table_lines(&other, rng);
-    let mine = format!("\t{:04X}\t", d.id).into_bytes();
-    let kept: Vec<Vec<u8>> = lines
-        .into_iter()
-        .filter(|l| !l.windows(6).any(|w| w == mine))
-        .collect();
-    if kept.is_empty() {
-        table_line(b"other", &other)
-    } else {
-        kept.concat()
+    Device {
+        id: agreeing(d, other.idmask, rng),
+        ..other
     }
+}
+
+/// A table of sound lines of which some word fits two, wherever these stand.
+fn clash_table(d: &Device, rng: &mut Rng) -> Vec<u8> {
+    let mut listed = table_devices(d, rng);
+    // Two whole masks clash in one way alone.
+    let masked: Vec<Device> = listed
+        .iter()
+        .copied()
+        .filter(|l| l.idmask != WORD_MAX)
+        .collect();
+    let one = if masked.is_empty() || rng.chance(30) {
+        rng.pick(&listed)
+    } else {
+        rng.pick(&masked)
+    };
+    listed.truncate(LINES_MAX - 1);
+    if !listed.contains(&one) {
+        listed[0] = one;
+    }
+    listed.insert(rng.below(listed.len() + 1), clashing(&one, rng));
+    table_lines(&listed, rng).concat()
 }
 
 /// A table line's field replaced.
@@ -306,12 +421,24 @@ fn with_field(line: &[u8], field: usize, text: &[u8]) -> Vec<u8> {
     [fields.join(&b'\t'), b"\n".to_vec()].concat()
 }
 
+/// A table line's six fields, and others behind them.
+fn with_more(line: &[u8], more: &[&[u8]]) -> Vec<u8> {
+    let body = &line[..line.len() - 1];
+    let mut fields: Vec<&[u8]> = body.split(|&c| c == b'\t').take(6).collect();
+    fields.extend(more);
+    [fields.join(&b'\t'), b"\n".to_vec()].concat()
+}
+
 /// A table that is malformed in one of the ways that the paper's rules name.
 pub fn bad_table(d: &Device, rng: &mut Rng) -> Vec<u8> {
-    let mut lines = table_lines(d, rng);
+    if rng.chance(35) {
+        return clash_table(d, rng);
+    }
+    let listed = table_devices(d, rng);
+    let mut lines = table_lines(&listed, rng);
     let at = rng.below(lines.len());
     let line = lines[at].clone();
-    match rng.below(20) {
+    match rng.below(23) {
         0 => return Vec::new(),
         1 => {
             // One line too many, each of them sound.
@@ -322,15 +449,19 @@ pub fn bad_table(d: &Device, rng: &mut Rng) -> Vec<u8> {
                     ids.push(id);
                 }
             }
+            let whole = Device {
+                idmask: WORD_MAX,
+                ..*d
+            };
             return ids
                 .iter()
-                .flat_map(|&id| table_line(b"x", &Device { id, ..*d }))
+                .flat_map(|&id| table_line(b"x", &Device { id, ..whole }, rng))
                 .collect();
         }
         2 => {
             let twice = rng.below(lines.len() + 1);
             let id = line.split(|&c| c == b'\t').nth(1).expect("an ID").to_vec();
-            let other = table_line(b"again", &device_of_any_size(rng));
+            let other = table_line(b"again", &device_of_any_size(rng), rng);
             lines.insert(twice, with_field(&other, 1, &id));
         }
         3 => {
@@ -360,7 +491,7 @@ pub fn bad_table(d: &Device, rng: &mut Rng) -> Vec<u8> {
             lines[at].insert(tab, b'\t');
         }
         12 => lines[at] = [&line[..line.len() - 1], b"\t\n"].concat(),
-        13 | 14 => lines[at] = table_line(&name(rng), &unlawful(d, rng)),
+        13 | 14 => lines[at] = table_line(&name(rng), &unlawful(d, rng), rng),
         15 => {
             // P again after 15, 16, 32 or 64 bits, and R after 8 or as many.
             let (field, number, bits) = if rng.chance(50) {
@@ -390,6 +521,33 @@ pub fn bad_table(d: &Device, rng: &mut Rng) -> Vec<u8> {
             lines[at] = with_field(&line, rng.pick(&[2, 3]), text);
         }
         18 => lines.insert(at, b"\n".to_vec()),
+        19 | 20 => {
+            let text: &[u8] = rng.pick(&[
+                b"".as_slice(),
+                b"",
+                b"4000",
+                b"7FFF",
+                b"8000",
+                b"FFFF",
+                b"3fff",
+                b"3fe0",
+                b"3FF",
+                b"03FFF",
+                b"3FFF0",
+                b"3FFF ",
+                b" 3FF",
+                b"3FF:",
+                b"G000",
+                b"3FFF\r",
+            ]);
+            lines[at] = with_more(&line, &[text]);
+        }
+        // An eighth field behind a sound seventh, and a ninth.
+        21 => {
+            let text: &[u8] = rng.pick(&[b"".as_slice(), b"3FFF", b"0000", b"x"]);
+            let fields = [b"3FFF".as_slice(), text, b"3FFF"];
+            lines[at] = with_more(&line, &fields[..rng.between(2, 3)]);
+        }
         _ => lines.push(rng.pick(&[b"x".as_slice(), b"\n", b"\t", b"\0"]).to_vec()),
     }
     lines.concat()
@@ -406,14 +564,17 @@ pub fn device(name: &str, aim: u32, d: Device, rng: &mut Rng) -> Vec<Field> {
         "judge_table" if aim == 15 => vec![bad_table(&d, rng).into()],
         "judge_table" => vec![table_with(&d, rng).into()],
         "find_device" => {
+            // What is looked for has 16 bits, and a number above 3FFFh fits no line.
+            if aim == 16 && rng.chance(25) {
+                return vec![table_with(&d, rng).into(), no_word(&d, rng).into()];
+            }
+            let word = fitting(&d, rng);
             let table = match aim {
                 15 => bad_table(&d, rng),
-                16 => table_without(&d, rng),
+                16 => table_without(&d, word, rng),
                 _ => table_with(&d, rng),
             };
-            // The ID looked for is of 16 bits, and no table has one above 3FFFh.
-            let high = aim == 16 && rng.chance(10);
-            vec![table.into(), (d.id | if high { 0x8000 } else { 0 }).into()]
+            vec![table.into(), word.into()]
         }
         "is_reading" => is_reading(d, aim == 1, rng),
         "is_protected" => {
@@ -431,11 +592,7 @@ pub fn device(name: &str, aim: u32, d: Device, rng: &mut Rng) -> Vec<Field> {
             vec![words.into(), i.into()]
         }
         "under_mask" => under_mask(&d, aim == 1, rng),
-        "id_fits" => {
-            let mut fields = device_fields(&d);
-            fields.push(if aim == 1 { d.id } else { other_id(&d, rng) }.into());
-            fields
-        }
+        "fits" => fits(&d, aim == 1, rng),
         _ => is_image(d, aim == 1, rng),
     }
 }
@@ -469,16 +626,32 @@ fn under_mask(d: &Device, elsewhere: bool, rng: &mut Rng) -> Vec<Field> {
     fields
 }
 
-/// A number other than the record's ID, at times one that another field has or that differs in one bit.
-fn other_id(d: &Device, rng: &mut Rng) -> u16 {
-    let bit = d.id ^ (1 << rng.below(16));
-    let any = number(16, rng) as u16;
-    let near = rng.pick(&[bit, d.words, d.row, d.mask1, d.mask2, any]);
-    if near == d.id {
-        bit
-    } else {
-        near
+/// A record that is not judged, and a number that fits it or does not: one that is no word, that another field has, or any.
+fn fits(d: &Device, yes: bool, rng: &mut Rng) -> Vec<Field> {
+    let mut d = *d;
+    let high = rng.pick(&[0x4000, 0x8000, 0xC000]);
+    let word = fitting(&d, rng);
+    // A bit that no word has, in the ID and in the mask.
+    let none = !yes && rng.chance(20);
+    match rng.below(8) {
+        _ if none => (d.id, d.idmask) = (d.id | high, d.idmask | high),
+        // ID bits outside the mask have no say, these neither.
+        0 => d.id |= high,
+        // A word has zeros there, as the ID has.
+        1 => d.idmask |= high,
+        2 => d = unlawful(&d, rng),
+        _ => {}
     }
+    let number = match rng.below(6) {
+        _ if yes || none => word,
+        0 | 1 => no_word(&d, rng),
+        2 => rng.pick(&[d.id, d.words, d.row, d.mask1, d.mask2, d.idmask]),
+        3 => number(16, rng) as u16,
+        _ => other_word(&d, rng).unwrap_or(word | high),
+    };
+    let mut fields = device_fields(&d);
+    fields.push(number.into());
+    fields
 }
 
 /// Program words, and an entry that can be programmed or cannot.
@@ -654,8 +827,13 @@ pub fn bad_sheet(d: &Device, text: &[u8], rng: &mut Rng) -> Vec<u8> {
 /// A first line that no record has.
 pub fn bad_first_line(text: &[u8], rng: &mut Rng) -> Vec<u8> {
     let mut bad = text.to_vec();
-    match rng.below(7) {
+    match rng.below(9) {
         0 => bad[0] = rng.pick(b"456789ABCDEF"),
+        // The ID, and a bit above 3FFFh.
+        7 | 8 => {
+            let id = own::first_line(text).unwrap_or(0);
+            bad = with_id(text, id | rng.pick(&[0x4000, 0x8000, 0xC000]));
+        }
         1 => {
             let at = rng.below(4);
             bad[at] = rng.pick(b"abcdef/:@G`g \t\n");
@@ -672,7 +850,7 @@ pub fn bad_first_line(text: &[u8], rng: &mut Rng) -> Vec<u8> {
 }
 
 /// A whole sheet with another ID on line 1.
-fn with_id(text: &[u8], id: u16) -> Vec<u8> {
+pub fn with_id(text: &[u8], id: u16) -> Vec<u8> {
     [format!("{id:04X}").into_bytes(), text[4..].to_vec()].concat()
 }
 
@@ -682,7 +860,8 @@ pub fn sheet(name: &str, aim: u32, d: Device, rng: &mut Rng) -> Vec<Field> {
         // 8006h is not held against the record here.
         reading[d.p() + 6] = rng.word();
     }
-    let mut text = own::text(&d, &reading);
+    // Line 1 need only fit, and is not held against 8006h.
+    let mut text = with_id(&own::text(&d, &reading), fitting(&d, rng));
     match name {
         "read_id" => {
             if rng.chance(70) {
@@ -699,9 +878,10 @@ pub fn sheet(name: &str, aim: u32, d: Device, rng: &mut Rng) -> Vec<Field> {
         "read_sheet" => {
             let mut fields = record(&d, aim, rng);
             if aim == 14 || also(aim, &[13, 12], rng) {
-                text = match rng.below(5) {
+                text = match rng.below(6) {
                     0 => bad_first_line(&text, rng),
-                    1 => with_id(&text, d.id ^ 1 << rng.below(14)),
+                    5 => with_id(&text, no_word(&d, rng)),
+                    1 => with_id(&text, other_word(&d, rng).unwrap_or(no_word(&d, rng))),
                     _ => bad_sheet(&d, &text, rng),
                 };
             }

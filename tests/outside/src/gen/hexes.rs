@@ -177,6 +177,7 @@ fn own_kind(line: &[u8]) -> Option<u32> {
         row: 8,
         mask1: 0x80,
         mask2: 0,
+        idmask: 0,
     };
     own::image(&d, line, own::TEXT_MAX)
         .err()

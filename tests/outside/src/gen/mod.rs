@@ -12,7 +12,7 @@ use crate::field::{Field, Kind, LINE_MAX};
 use crate::rng::Rng;
 use boards::any_device;
 
-pub use boards::{device_of_size, image_for, large_device, reading_for};
+pub use boards::{device_of_size, fitting, image_for, large_device, reading_for, with_id};
 
 /// How an input is made.
 #[derive(Clone, Copy, Debug)]
@@ -135,7 +135,7 @@ fn random(kind: Kind, rng: &mut Rng) -> Field {
     }
 }
 
-/// Damages one place of one field; mostly not a number, or a record's five would take most of the damage.
+/// Damages one place of one field; mostly not a number, or a record's six would take most of the damage.
 fn damage(fields: &mut [Field], kinds: &[Kind], rng: &mut Rng) {
     if fields.is_empty() {
         return;

@@ -1,6 +1,9 @@
 //! Inputs for the model and for the planners.
 
-use super::boards::{also, image_for, reading_for, record, spoil_image, spoil_words};
+use super::boards::{
+    also, choosy, fitting, image_for, no_word, other_word, reading_for, record, spoil_image,
+    spoil_words,
+};
 use super::{lent, lent_words, number, room};
 use crate::board::OPENED_MAX;
 use crate::device::{Device, CP};
@@ -353,7 +356,10 @@ pub fn want_a_bit(d: &Device, image: &mut [u16], reading: &mut [u16], rng: &mut 
     }
 }
 
-fn update(aim: u32, d: Device, rng: &mut Rng) -> Vec<Field> {
+fn update(aim: u32, mut d: Device, rng: &mut Rng) -> Vec<Field> {
+    if aim == 22 {
+        d = choosy(&d, rng);
+    }
     let mut reading = reading_for(&d, false, rng);
     let mut image = image_for(&d, &reading, rng);
     let needed = own::update_stream(&d, &own::wanted_over(&d, &image, &reading), &reading).len();
@@ -366,7 +372,8 @@ fn update(aim: u32, d: Device, rng: &mut Rng) -> Vec<Field> {
         reading[d.p() + 7] &= !CP;
     }
     if aim == 22 || also(aim, &[13, 20, 21], rng) {
-        reading[d.p() + 6] ^= 1 << rng.below(14);
+        let word = other_word(&d, rng);
+        reading[d.p() + 6] = word.unwrap_or(reading[d.p() + 6]);
     }
     if aim == 21 || also(aim, &[13, 20], rng) {
         spoil_words(&mut reading, rng);
@@ -385,12 +392,13 @@ fn fresh(aim: u32, d: Device, rng: &mut Rng) -> Vec<Field> {
     let needed = own::fresh_stream(&d, &own::wanted_blank(&d, &image)).len();
     let short = aim == 26 || also(aim, &[13, 20, 22], rng);
     let length = room(needed, short, rng);
-    let mut id_word = d.id;
+    let mut id_word = fitting(&d, rng);
     if aim == 22 || also(aim, &[13, 20], rng) {
-        id_word = if rng.chance(70) {
-            d.id ^ 1 << rng.below(16)
-        } else {
-            number(16, rng) as u16
+        // Where every word fits, only what is no word does not.
+        id_word = match (other_word(&d, rng), rng.below(10)) {
+            (Some(word), 0..=5) => word,
+            (_, 0..=8) => no_word(&d, rng),
+            _ => number(16, rng) as u16,
         };
     }
     if aim == 20 || also(aim, &[13], rng) {

@@ -37,8 +37,11 @@ returns-7 c = judged-bad _ (λ r. c .if7 .taken (r .cp-bit))
 
 returns-8 : tie.Need-returns-8
 unfolding bit
-returns-8 c = judged-all _ (sym (c .before .before .before .before .before .before .before .before .before .before .before .before .before .row-ok .ensures) ∙ c .before .before .before .before .before .before .before .before .before .before .before .before .if1 .taken) (sym (c .before .before .before .before .before .before .before .before .before .before .before .words-ok .ensures) ∙ c .before .before .before .before .before .before .before .before .before .before .if2 .taken)
-    (c .before .before .before .before .before .before .before .before .if3 .left) (c .before .before .before .before .before .before .if4 .left) (c .before .before .before .before .if5 .left) (c .before .before .if6 .left) (c .if7 .left)
+returns-8 c = judged-all _ (sym
+    (c .before .before .before .before .before .before .before .before .before .before .before .before .before .row-ok .ensures) ∙ c .before .before .before .before .before .before .before .before .before .before .before .before .if1 .taken)
+    (sym (c .before .before .before .before .before .before .before .before .before .before .before .words-ok .ensures) ∙ c .before .before .before .before .before .before .before .before .before .before .if2 .taken)
+    (c .before .before .before .before .before .before .before .before .if3 .left) (c .before .before .before .before .before .before .if4 .left)
+    (c .before .before .before .before .if5 .left) (c .before .before .if6 .left) (c .if7 .left)
 
 pub judge-spec : {M : Type 1} → statement M
 judge-spec =

@@ -130,7 +130,8 @@ returns-4 c =
     let h = c .before .before .before .before .before .before .before .before .before .before .before .before .before .before .if2 .left in
     let r = c .before .before .before .before .before .before .before .before .before .before .read-hex .ensures in
     let y = c .before .before .before .before .before .before .before .if3 .left in
-    prints-as _ _ _ _ _ (program-found _ _ _ _ _ _ (o .0) z _ _ b h _ (other-long _ _ _ _ b 0xffff) _ _ r y _ _ (c .before .before .before .before .before .before .read-id .ensures)) (c .before .before .put-planned .ensures)
+    prints-as _ _ _ _ _ (program-found _ _ _ _ _ _ (o .0) z _ _ b h _ (other-long _ _ _ _ b 0xffff) _ _ r y _ _
+    (c .before .before .before .before .before .before .read-id .ensures)) (c .before .before .put-planned .ensures)
 
 pub put-program-spec : {M : Type 1} → statement M
 put-program-spec =

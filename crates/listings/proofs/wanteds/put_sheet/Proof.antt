@@ -20,7 +20,11 @@ array-share-prefix-sheet : tie.Need-array-share-prefix-sheet
 array-share-prefix-sheet c =
     let p = c .before .before .before .before .before .before .pre in
     let w = c .before .before .write-sheet .ensures in
-    omega (arith, sheet-short (c .before .before .before .before .before .before .args .d) (p .0) _ (p .1) (c .before .before .before .before .before .before .args .id) (p .2) _ (length-replicate {A = ℕ} 46135 0) _ (w .0))
+    omega (
+      arith,
+      sheet-short (c .before .before .before .before .before .before .args .d) (p .0) _ (p .1)
+          (c .before .before .before .before .before .before .args .id) (p .2) _ (length-replicate {A = ℕ} 46135 0) _ (w .0),
+    )
 
 slice-aggregate-text : tie.Need-slice-aggregate-text
 slice-aggregate-text c = sym (length-take-le _ _ (array-share-prefix-sheet (c .before)))
@@ -35,7 +39,9 @@ returns : tie.Need-returns
 returns c =
     let p = c .before .before .before .before .before .before .before .before .before .before .pre in
     let w = c .before .before .before .before .before .before .write-sheet .ensures in
-    prints-as _ _ _ _ _ (sheet-whole (c .before .before .before .before .before .before .before .before .before .before .args .d) (p .0) _ (p .1) (c .before .before .before .before .before .before .before .before .before .before .args .id) (p .2) _ (length-replicate {A = ℕ} 46135 0) _ (w .0) _ (w .1)) (c .before .before .text .ensures)
+    prints-as _ _ _ _ _ (sheet-whole (c .before .before .before .before .before .before .before .before .before .before .args .d) (p .0) _ (p .1)
+    (c .before .before .before .before .before .before .before .before .before .before .args .id) (p .2) _ (length-replicate {A = ℕ} 46135 0) _ (w .0) _ (w .1))
+    (c .before .before .text .ensures)
 
 pub put-sheet-spec : {M : Type 1} → statement M
 put-sheet-spec =

@@ -30,13 +30,16 @@ byte-is-requires : tie.Need-byte-is-requires
 byte-is-requires c κs = search needs
 
 returns-3 : tie.Need-returns-3
-returns-3 c = places-no-end _ _ (c .before .before .before .before .if1 .left) (sym (c .before .before .before .id-ok .ensures) ∙ c .before .before .if2 .taken) (sym (c .before .byte-is .ensures) ∙ c .if3 .left)
+returns-3 c = places-no-end _ _ (c .before .before .before .before .if1 .left) (sym (c .before .before .before .id-ok .ensures) ∙ c .before .before .if2 .taken) (sym
+    (c .before .byte-is .ensures) ∙ c .if3 .left)
 
 lines-ok-requires : tie.Need-lines-ok-requires
 lines-ok-requires c κs = search needs
 
 returns-4 : tie.Need-returns-4
-returns-4 c = places-no-lines _ _ (c .before .before .before .before .before .before .if1 .left) (sym (c .before .before .before .before .before .id-ok .ensures) ∙ c .before .before .before .before .if2 .taken) (sym (c .before .before .before .byte-is .ensures) ∙ c .before .before .if3 .taken) (sym (c .before .lines-ok .ensures) ∙ c .if4 .left)
+returns-4 c = places-no-lines _ _ (c .before .before .before .before .before .before .if1 .left) (sym
+    (c .before .before .before .before .before .id-ok .ensures) ∙ c .before .before .before .before .if2 .taken) (sym
+    (c .before .before .before .byte-is .ensures) ∙ c .before .before .if3 .taken) (sym (c .before .lines-ok .ensures) ∙ c .if4 .left)
 
 mul-line-ok : tie.Need-mul-line-ok
 mul-line-ok c = search needs
@@ -48,7 +51,9 @@ line-ok-requires : tie.Need-line-ok-requires
 line-ok-requires c κs = search needs
 
 returns-5 : tie.Need-returns-5
-returns-5 c = c .line-ok .ensures ∙ places-last _ _ (c .before .before .before .before .before .before .before .if1 .left) (sym (c .before .before .before .before .before .before .id-ok .ensures) ∙ c .before .before .before .before .before .if2 .taken) (sym (c .before .before .before .before .byte-is .ensures) ∙ c .before .before .before .if3 .taken) (sym (c .before .before .lines-ok .ensures) ∙ c .before .if4 .taken)
+returns-5 c = c .line-ok .ensures ∙ places-last _ _ (c .before .before .before .before .before .before .before .if1 .left) (sym
+    (c .before .before .before .before .before .before .id-ok .ensures) ∙ c .before .before .before .before .before .if2 .taken) (sym
+    (c .before .before .before .before .byte-is .ensures) ∙ c .before .before .before .if3 .taken) (sym (c .before .before .lines-ok .ensures) ∙ c .before .if4 .taken)
 
 pub places-ok-spec : {M : Type 1} → statement M
 places-ok-spec =

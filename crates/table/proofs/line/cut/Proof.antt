@@ -62,10 +62,24 @@ one-more-requires : tie.Need-one-more-requires
 one-more-requires c κs = search needs
 
 returns-6 : tie.Need-returns-6
-returns-6 c = few _ 0 0 0 0 0 0 (many _ _ (c .before .before .before .before .before .before .before .before .before .before .before .before .find .ensures .0) (c .before .before .before .before .before .before .before .before .before .before .before .if1 .left) _ (c .before .before .before .before .before .before .before .before .before .before .find2 .ensures .0) (c .before .before .before .before .before .before .before .before .before .if2 .left) _ (c .before .before .before .before .before .before .before .before .find3 .ensures .0) (c .before .before .before .before .before .before .before .if3 .left) _ (c .before .before .before .before .before .before .find4 .ensures .0) (c .before .before .before .before .before .if4 .left) _ (c .before .before .before .before .find5 .ensures .0) (c .before .before .before .if5 .left) _ (c .before .before .find6 .ensures .0) (c .before .before .find6 .ensures .1) _ (c .before .one-more .ensures) (c .if6 .left))
+returns-6 c = few _ 0 0 0 0 0 0 (many _ _ (c .before .before .before .before .before .before .before .before .before .before .before .before .find .ensures .0)
+    (c .before .before .before .before .before .before .before .before .before .before .before .if1 .left) _
+    (c .before .before .before .before .before .before .before .before .before .before .find2 .ensures .0)
+    (c .before .before .before .before .before .before .before .before .before .if2 .left) _
+    (c .before .before .before .before .before .before .before .before .find3 .ensures .0) (c .before .before .before .before .before .before .before .if3 .left) _
+    (c .before .before .before .before .before .before .find4 .ensures .0) (c .before .before .before .before .before .if4 .left) _
+    (c .before .before .before .before .find5 .ensures .0) (c .before .before .before .if5 .left) _ (c .before .before .find6 .ensures .0)
+    (c .before .before .find6 .ensures .1) _ (c .before .one-more .ensures) (c .if6 .left))
 
 returns-7 : tie.Need-returns-7
-returns-7 c = all-tabs _ _ (c .before .before .before .before .before .before .before .before .before .before .before .before .find .ensures .0) (c .before .before .before .before .before .before .before .before .before .before .before .if1 .left) _ (c .before .before .before .before .before .before .before .before .before .before .find2 .ensures .0) (c .before .before .before .before .before .before .before .before .before .if2 .left) _ (c .before .before .before .before .before .before .before .before .find3 .ensures .0) (c .before .before .before .before .before .before .before .if3 .left) _ (c .before .before .before .before .before .before .find4 .ensures .0) (c .before .before .before .before .before .if4 .left) _ (c .before .before .before .before .find5 .ensures .0) (c .before .before .before .if5 .left) _ (c .before .before .find6 .ensures .0) (c .before .before .find6 .ensures .1) _ (c .before .one-more .ensures) (c .if6 .taken)
+returns-7 c = all-tabs _ _ (c .before .before .before .before .before .before .before .before .before .before .before .before .find .ensures .0)
+    (c .before .before .before .before .before .before .before .before .before .before .before .if1 .left) _
+    (c .before .before .before .before .before .before .before .before .before .before .find2 .ensures .0)
+    (c .before .before .before .before .before .before .before .before .before .if2 .left) _
+    (c .before .before .before .before .before .before .before .before .find3 .ensures .0) (c .before .before .before .before .before .before .before .if3 .left) _
+    (c .before .before .before .before .before .before .find4 .ensures .0) (c .before .before .before .before .before .if4 .left) _
+    (c .before .before .before .before .find5 .ensures .0) (c .before .before .before .if5 .left) _ (c .before .before .find6 .ensures .0)
+    (c .before .before .find6 .ensures .1) _ (c .before .one-more .ensures) (c .if6 .taken)
 
 pub cut-spec : {M : Type 1} → statement M
 cut-spec =

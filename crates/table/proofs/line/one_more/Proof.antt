@@ -1,5 +1,4 @@
 -- Nothing follows, or no tab does.
-use mathlib.Core.Path.{_∙_}
 use Rattle.table.specs.LawsLine.{after-none, after-one}
 use borrow.Author.Needs.{needs}
 use Rattle.table.proofs.line.one_more.Statement.{statement}

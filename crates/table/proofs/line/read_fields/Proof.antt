@@ -101,7 +101,12 @@ device-of-requires : tie.Need-device-of-requires
 device-of-requires c κs = search needs
 
 returns-2 : tie.Need-returns-2
-returns-2 c = fields-read _ _ _ _ _ _ _ (c .before .before .before .before .before .before .before .before .before .before .before .before .before .before .before .before .before .pre) _ _ _ _ _ _ _ _ _ (c .before .before .before .before .before .before .before .before .before .before .before .before .before .before .name-ok .ensures) (c .before .before .before .before .before .before .before .before .before .before .before .before .before .if1 .taken) (c .before .before .before .before .before .before .before .before .before .before .before .hex-field .ensures) (c .before .before .before .before .before .before .before .before .before .read .ensures) (c .before .before .before .before .before .before .before .read2 .ensures)
+returns-2 c = fields-read _ _ _ _ _ _ _
+    (c .before .before .before .before .before .before .before .before .before .before .before .before .before .before .before .before .before .pre) _ _ _ _ _ _ _ _ _
+    (c .before .before .before .before .before .before .before .before .before .before .before .before .before .before .name-ok .ensures)
+    (c .before .before .before .before .before .before .before .before .before .before .before .before .before .if1 .taken)
+    (c .before .before .before .before .before .before .before .before .before .before .before .hex-field .ensures)
+    (c .before .before .before .before .before .before .before .before .before .read .ensures) (c .before .before .before .before .before .before .before .read2 .ensures)
     (c .before .before .before .before .before .hex-field2 .ensures) (c .before .before .before .hex-field3 .ensures) (c .before .before .mask-after .ensures) (c .before .device-of .ensures)
 
 pub read-fields-spec : {M : Type 1} → statement M

@@ -56,7 +56,10 @@ clash-after-requires : tie.Need-clash-after-requires Inv-loop μ-loop
 clash-after-requires c κs = search needs
 
 returns-3 : tie.Need-returns-3 Inv-loop μ-loop
-returns-3 c = table-bad _ (c .before .before .before .before .before .before .before .before .before .loop .inv .2 ∙ turn-clash _ _ _ _ (c .before .before .before .before .before .before .before .find .ensures .0) (c .before .before .before .before .before .before .before .before .loop-test .taken) (c .before .before .before .before .before .before .if1 .left) _ _ _ (c .before .before .before .before .read-line .ensures) (c .before .before .before .if2 .taken) _ (c .before .clash-after .ensures) (c .if3 .taken))
+returns-3 c = table-bad _ (c .before .before .before .before .before .before .before .before .before .loop .inv .2 ∙ turn-clash _ _ _ _
+    (c .before .before .before .before .before .before .before .find .ensures .0)
+    (c .before .before .before .before .before .before .before .before .loop-test .taken) (c .before .before .before .before .before .before .if1 .left) _ _ _
+    (c .before .before .before .before .read-line .ensures) (c .before .before .before .if2 .taken) _ (c .before .clash-after .ensures) (c .if3 .taken))
 
 add-at : tie.Need-add-at Inv-loop μ-loop
 add-at c = omega arith
@@ -65,13 +68,25 @@ add-lines : tie.Need-add-lines Inv-loop μ-loop
 add-lines c = omega arith
 
 returns-4 : tie.Need-returns-4 Inv-loop μ-loop
-returns-4 c = table-bad _ (c .before .before .before .before .before .before .before .before .before .before .loop .inv .2 ∙ (turn-on _ _ _ _ (c .before .before .before .before .before .before .before .before .find .ensures .0) (c .before .before .before .before .before .before .before .before .before .loop-test .taken) (c .before .before .before .before .before .before .before .if1 .left) _ _ _ (c .before .before .before .before .before .read-line .ensures) (c .before .before .before .before .if2 .taken) _ (c .before .before .clash-after .ensures) (c .before .if3 .left) ∙ left-many _ _ (c .if4 .taken)))
+returns-4 c = table-bad _ (c .before .before .before .before .before .before .before .before .before .before .loop .inv .2 ∙ (turn-on _ _ _ _
+    (c .before .before .before .before .before .before .before .before .find .ensures .0)
+    (c .before .before .before .before .before .before .before .before .before .loop-test .taken)
+    (c .before .before .before .before .before .before .before .if1 .left) _ _ _ (c .before .before .before .before .before .read-line .ensures)
+    (c .before .before .before .before .if2 .taken) _ (c .before .before .clash-after .ensures) (c .before .if3 .left) ∙ left-many _ _ (c .if4 .taken)))
 
 loop-less : tie.Need-loop-less Inv-loop μ-loop
 loop-less c = omega arith
 
 loop-again : tie.Need-loop-again Inv-loop μ-loop
-loop-again c = (omega arith, omega arith, c .before .before .before .before .before .before .before .before .before .before .loop .inv .2 ∙ turn-on _ _ _ _ (c .before .before .before .before .before .before .before .before .find .ensures .0) (c .before .before .before .before .before .before .before .before .before .loop-test .taken) (c .before .before .before .before .before .before .before .if1 .left) _ _ _ (c .before .before .before .before .before .read-line .ensures) (c .before .before .before .before .if2 .taken) _ (c .before .before .clash-after .ensures) (c .before .if3 .left))
+loop-again c = (
+  omega arith,
+  omega arith,
+  c .before .before .before .before .before .before .before .before .before .before .loop .inv .2 ∙ turn-on _ _ _ _
+      (c .before .before .before .before .before .before .before .before .find .ensures .0)
+      (c .before .before .before .before .before .before .before .before .before .loop-test .taken)
+      (c .before .before .before .before .before .before .before .if1 .left) _ _ _ (c .before .before .before .before .before .read-line .ensures)
+      (c .before .before .before .before .if2 .taken) _ (c .before .before .clash-after .ensures) (c .before .if3 .left),
+)
 
 returns-5 : tie.Need-returns-5 Inv-loop μ-loop
 returns-5 c = table-bad _ (c .before .before .loop .inv .2 ∙ left-none _ _ _ (c .before .loop-test .left) (c .if5 .taken))

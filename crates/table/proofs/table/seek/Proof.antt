@@ -35,7 +35,8 @@ line-fits-requires : tie.Need-line-fits-requires Inv-loop μ-loop
 line-fits-requires c κs = search needs
 
 returns-2 : tie.Need-returns-2 Inv-loop μ-loop
-returns-2 c = sought-here _ _ _ _ (c .before .before .before .before .find .ensures .0) (c .before .before .before .before .before .loop-test .taken) (c .before .before .before .before .before .before .loop .inv .1) (c .before .before .before .if1 .left) _ (c .before .line-fits .ensures) (c .if2 .taken)
+returns-2 c = sought-here _ _ _ _ (c .before .before .before .before .find .ensures .0) (c .before .before .before .before .before .loop-test .taken)
+    (c .before .before .before .before .before .before .loop .inv .1) (c .before .before .before .if1 .left) _ (c .before .line-fits .ensures) (c .if2 .taken)
 
 add-at : tie.Need-add-at Inv-loop μ-loop
 add-at c = omega arith
@@ -44,7 +45,11 @@ loop-less : tie.Need-loop-less Inv-loop μ-loop
 loop-less c = omega arith
 
 loop-again : tie.Need-loop-again Inv-loop μ-loop
-loop-again c = (omega arith, ahead-on _ _ _ _ (c .before .before .before .before .find .ensures .0) (c .before .before .before .before .before .loop-test .taken) (c .before .before .before .before .before .before .loop .inv .1) (c .before .before .before .if1 .left) _ (c .before .line-fits .ensures) (c .if2 .left))
+loop-again c = (
+  omega arith,
+  ahead-on _ _ _ _ (c .before .before .before .before .find .ensures .0) (c .before .before .before .before .before .loop-test .taken)
+      (c .before .before .before .before .before .before .loop .inv .1) (c .before .before .before .if1 .left) _ (c .before .line-fits .ensures) (c .if2 .left),
+)
 
 returns-3 : tie.Need-returns-3 Inv-loop μ-loop
 returns-3 c = sought-none _ _ _ (c .before .loop .inv .1) (c .loop-test .left)

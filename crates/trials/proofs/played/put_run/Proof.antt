@@ -47,8 +47,16 @@ same-length : tie.Need-same-length
 same-length c = search needs
 
 returns : tie.Need-returns
-returns c = prints-as _ _ _ _ _ (run-stopped (c .before .before .before .before .before .before .before .before .before .before .before .before .before .before .before .before .before .before .before .args .d) _ (c .before .before .before .before .before .before .before .before .before .before .before .before .before .before .before .before .before .before .before .pre .1) _ _ (cells-are (c .before .before .before .before .before .before .before .before .before .before .before .before .before .before .before .before .before .before .before .args .d) (c .before .before .before .before .before .before .before .before .before .before .before .before .before .before .before .before .before .before .before .pre .0) _ (c .before .before .before .before .before .before .before .before .before .before .before .before .before .before .before .before .before .before .before .pre .1) _ (c .before .before .before .before .before .before .before .before .before .before .before .before .before .before .copy .ensures)) _ _ _
-    (c .before .before .before .before .before .before .before .before .before .run .ensures) (c .before .before .before .before .before .before .before .before .before .before .before .before .before .before .before .before .before .before .before .args .id) (c .before .before .before .before .before .if1 .taken)) (c .before .before .refusal .ensures)
+returns c = prints-as _ _ _ _ _ (run-stopped
+    (c .before .before .before .before .before .before .before .before .before .before .before .before .before .before .before .before .before .before .before .args .d) _
+    (c .before .before .before .before .before .before .before .before .before .before .before .before .before .before .before .before .before .before .before .pre .1) _ _
+    (cells-are (c .before .before .before .before .before .before .before .before .before .before .before .before .before .before .before .before .before .before .before .args .d)
+    (c .before .before .before .before .before .before .before .before .before .before .before .before .before .before .before .before .before .before .before .pre .0) _
+    (c .before .before .before .before .before .before .before .before .before .before .before .before .before .before .before .before .before .before .before .pre .1) _
+    (c .before .before .before .before .before .before .before .before .before .before .before .before .before .before .copy .ensures)) _ _ _
+    (c .before .before .before .before .before .before .before .before .before .run .ensures)
+    (c .before .before .before .before .before .before .before .before .before .before .before .before .before .before .before .before .before .before .before .args .id)
+    (c .before .before .before .before .before .if1 .taken)) (c .before .before .refusal .ensures)
 
 array-share-prefix-cells : tie.Need-array-share-prefix-cells
 array-share-prefix-cells c = run-room (c .before .before .before .before .before .before .before .before .before .before .before .before .before .before .args .d) _
@@ -69,7 +77,13 @@ slice-aggregate-put-sheet c = sym (run-part (c .before .before .before .before .
 put-sheet-requires : tie.Need-put-sheet-requires
 put-sheet-requires c κs = (
   c .before .before .before .before .before .before .before .before .before .before .before .before .before .before .before .before .pre .0,
-  run-sound (c .before .before .before .before .before .before .before .before .before .before .before .before .before .before .before .before .args .d) _ (c .before .before .before .before .before .before .before .before .before .before .before .before .before .before .before .before .pre .1) _ _ (cells-are (c .before .before .before .before .before .before .before .before .before .before .before .before .before .before .before .before .args .d) (c .before .before .before .before .before .before .before .before .before .before .before .before .before .before .before .before .pre .0) _ (c .before .before .before .before .before .before .before .before .before .before .before .before .before .before .before .before .pre .1) _ (c .before .before .before .before .before .before .before .before .before .before .before .copy .ensures)) _ _ _ (c .before .before .before .before .before .before .run .ensures) _,
+  run-sound (c .before .before .before .before .before .before .before .before .before .before .before .before .before .before .before .before .args .d) _
+      (c .before .before .before .before .before .before .before .before .before .before .before .before .before .before .before .before .pre .1) _ _ (cells-are
+      (c .before .before .before .before .before .before .before .before .before .before .before .before .before .before .before .before .args .d)
+      (c .before .before .before .before .before .before .before .before .before .before .before .before .before .before .before .before .pre .0) _
+      (c .before .before .before .before .before .before .before .before .before .before .before .before .before .before .before .before .pre .1) _
+      (c .before .before .before .before .before .before .before .before .before .before .before .copy .ensures)) _ _ _
+      (c .before .before .before .before .before .before .run .ensures) _,
   c .before .before .before .before .before .before .before .before .before .before .before .before .before .before .before .before .pre .2,
 )
 
@@ -77,8 +91,16 @@ same-length-2 : tie.Need-same-length-2
 same-length-2 c = search needs
 
 returns-2 : tie.Need-returns-2
-returns-2 c = prints-as _ _ _ _ _ (run-whole (c .before .before .before .before .before .before .before .before .before .before .before .before .before .before .before .before .before .before .before .args .d) _ (c .before .before .before .before .before .before .before .before .before .before .before .before .before .before .before .before .before .before .before .pre .1) _ _ (cells-are (c .before .before .before .before .before .before .before .before .before .before .before .before .before .before .before .before .before .before .before .args .d) (c .before .before .before .before .before .before .before .before .before .before .before .before .before .before .before .before .before .before .before .pre .0) _ (c .before .before .before .before .before .before .before .before .before .before .before .before .before .before .before .before .before .before .before .pre .1) _ (c .before .before .before .before .before .before .before .before .before .before .before .before .before .before .copy .ensures)) _ _ _
-    (c .before .before .before .before .before .before .before .before .before .run .ensures) _ (c .before .before .before .before .before .before .before .before .before .before .before .before .before .before .before .before .before .before .before .args .id) (c .before .before .before .before .before .if1 .left)) (c .before .before .put-sheet .ensures)
+returns-2 c = prints-as _ _ _ _ _ (run-whole
+    (c .before .before .before .before .before .before .before .before .before .before .before .before .before .before .before .before .before .before .before .args .d) _
+    (c .before .before .before .before .before .before .before .before .before .before .before .before .before .before .before .before .before .before .before .pre .1) _ _
+    (cells-are (c .before .before .before .before .before .before .before .before .before .before .before .before .before .before .before .before .before .before .before .args .d)
+    (c .before .before .before .before .before .before .before .before .before .before .before .before .before .before .before .before .before .before .before .pre .0) _
+    (c .before .before .before .before .before .before .before .before .before .before .before .before .before .before .before .before .before .before .before .pre .1) _
+    (c .before .before .before .before .before .before .before .before .before .before .before .before .before .before .copy .ensures)) _ _ _
+    (c .before .before .before .before .before .before .before .before .before .run .ensures) _
+    (c .before .before .before .before .before .before .before .before .before .before .before .before .before .before .before .before .before .before .before .args .id)
+    (c .before .before .before .before .before .if1 .left)) (c .before .before .put-sheet .ensures)
 
 pub put-run-spec : {M : Type 1} → statement M
 put-run-spec =

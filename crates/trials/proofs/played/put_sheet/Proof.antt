@@ -29,7 +29,10 @@ write-sheet-requires c κs = search needs
 array-share-prefix-sheet : tie.Need-array-share-prefix-sheet
 array-share-prefix-sheet c = omega (
   arith,
-  sheet-short (c .before .before .before .before .before .before .before .before .args .d) (c .before .before .before .before .before .before .before .before .pre .0) _ (c .before .before .before .before .before .before .before .before .pre .1) (c .before .before .before .before .before .before .before .before .args .id) (c .before .before .before .before .before .before .before .before .pre .2) _ (length-replicate {A = ℕ} 46135 0) _ (c .before .before .write-sheet .ensures .0),
+  sheet-short (c .before .before .before .before .before .before .before .before .args .d)
+      (c .before .before .before .before .before .before .before .before .pre .0) _ (c .before .before .before .before .before .before .before .before .pre .1)
+      (c .before .before .before .before .before .before .before .before .args .id) (c .before .before .before .before .before .before .before .before .pre .2) _
+      (length-replicate {A = ℕ} 46135 0) _ (c .before .before .write-sheet .ensures .0),
 )
 
 slice-aggregate-text : tie.Need-slice-aggregate-text
@@ -42,7 +45,11 @@ same-length : tie.Need-same-length
 same-length c = search needs
 
 returns : tie.Need-returns
-returns c = prints-as _ _ _ _ _ (sheet-front (c .before .before .before .before .before .before .before .before .before .before .before .before .args .d) (c .before .before .before .before .before .before .before .before .before .before .before .before .pre .0) _ (c .before .before .before .before .before .before .before .before .before .before .before .before .pre .1) (c .before .before .before .before .before .before .before .before .before .before .before .before .args .id) (c .before .before .before .before .before .before .before .before .before .before .before .before .pre .2) _ (length-replicate {A = ℕ} 46135 0) _
+returns c = prints-as _ _ _ _ _ (sheet-front (c .before .before .before .before .before .before .before .before .before .before .before .before .args .d)
+    (c .before .before .before .before .before .before .before .before .before .before .before .before .pre .0) _
+    (c .before .before .before .before .before .before .before .before .before .before .before .before .pre .1)
+    (c .before .before .before .before .before .before .before .before .before .before .before .before .args .id)
+    (c .before .before .before .before .before .before .before .before .before .before .before .before .pre .2) _ (length-replicate {A = ℕ} 46135 0) _
     (c .before .before .before .before .before .before .write-sheet .ensures .0) _ (c .before .before .before .before .before .before .write-sheet .ensures .1)) (c .before .before .text .ensures)
 
 pub put-sheet-spec : {M : Type 1} → statement M
