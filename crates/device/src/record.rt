@@ -66,5 +66,6 @@ pub fn fits(d: Device, w: u16) -> bool
     if WORD_LIMIT <= w {
         return false;
     }
-    w & d.idmask == d.id & d.idmask
+    let mask = d.idmask;
+    w & mask == d.id & mask
 }

@@ -8,7 +8,7 @@ returns : tie.Need-returns
 returns c = sym (fits-high _ _ (c .if1 .taken))
 
 returns-2 : tie.Need-returns-2
-returns-2 c = sym (fits-low _ _ (c .before .before .if1 .left))
+returns-2 c = sym (fits-low _ _ (c .before .if1 .left))
 
 pub fits-spec : {M : Type 1} → statement M
 fits-spec = tie.close (tie.spec returns returns-2)
