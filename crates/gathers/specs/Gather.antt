@@ -25,7 +25,7 @@ answersIn words text = build (words + readingTail) (λ i. wordBy capitalOf text 
 unfoldable pub answersOk : (words : ℕ) → (text : List ℕ) → Bool
 answersOk words text = readingOk words (answersIn words text) && sameText text (answerText (answersIn words text))
 
--- 15, 14 for line 1 of the sheet, 16, 21
+-- 15, 14 for line 1 of the sheet, 16, 17, 21
 unfoldable pub gatherNumber : (table sheet answers : List ℕ) → ℕ
 gatherNumber table sheet answers =
     unless (eqb (openNumber table sheet) 0) (openNumber table sheet)
