@@ -21,7 +21,7 @@ use Rattle.device.specs.declared.Device.{Device}
 use Rattle.device.specs.Record.{deviceOk, fits}
 use Rattle.device.specs.Memory.{readingTail, readingOk}
 use Rattle.device.specs.LawsRecord.{rules, words-eighths}
-use Rattle.device.specs.LawsId.{fits-word}
+use Rattle.device.specs.LawsId.{fits-word, fits-own}
 use Rattle.sheet.specs.Sheet.{fields, lineText, programLines, sheetWith, sheetText, sheetLength, idIn, digitsAt, wordsIn, sameText, sheetOk}
 use Rattle.sheet.specs.LawsStands.{Stands, stands-join, stands-left, stands-right, stands-byte, byte-stands, stands-next, stands-cons, stands-self, word-stands}
 
@@ -266,6 +266,11 @@ module _ (d : Device) (sound : deviceOk d ≡ true) where
       let name : idIn t ≡ id = word-stands t 0 id (parts .id-here) (omega arith) in
       let same : wordsIn (d .words) t ≡ l = read-back id l t parts (words-long (d .words + readingTail) l ok) (words-each (d .words + readingTail) l ok) in
       (rw (name, same) (both (fits d id && readingOk (d .words) l) (sameText t (sheetWith id d l)) (both (fits d id) (readingOk (d .words) l) good ok) (same-self t)), name, same)
+
+  -- so is what is written with the record's own ID
+  pub own-read : (l : List ℕ) → readingOk (d .words) l ≡ true → (sheetOk d (sheetText d l) ≡ true) × (wordsIn (d .words) (sheetText d l) ≡ l)
+  unfolding sheetText
+  own-read l ok = let r = written-read (d .id) (fits-own d (rules d sound .id-word)) l ok in (r .0, r .2)
 
 module _ (d : Device) (t : List ℕ) where
   named : Bool
