@@ -93,9 +93,6 @@ module _ (d : Device) (served : deviceUpTo mostProgram d ≡ true) where
       long : w .length ≡ sheetLength (withId d id)
       long = ap (λ x. x .length) (f ∙ is)
 
-      pub sheet-short : w .length ≤ 46135
-      sheet-short = rw long (served-sheet (withId d id) own)
-
       pub sheet-front : (text : List ℕ) → text ≡ writtenText (withId d id) (take (d .words + readingTail) (words ++ rest)) (replicate 46135 0)
           → take (w .length) text ≡ sheetWith id d (answersIn (d .words) t)
       unfolding writtenText

@@ -150,9 +150,6 @@ module _ (d : Device) (served : deviceUpTo mostProgram d ≡ true) (reading : Li
   sheet-long : w .length ≡ sheetLength (withId d id)
   sheet-long = ap (λ x. x .length) (e ∙ sheet-is)
 
-  pub sheet-short : w .length ≤ 46135
-  sheet-short = let m : sheetLength (withId d id) ≤ 46135 = served-sheet (withId d id) own in let l : w .length ≡ sheetLength (withId d id) = sheet-long in omega arith
-
   pub sheet-whole : (text′ : List ℕ) → text′ ≡ writtenText (withId d id) reading text → take (w .length) text′ ≡ sheetWith id d reading
   unfolding writtenText
   sheet-whole text′ f =

@@ -4,12 +4,12 @@ use native.Mathlib.Nat.{add-zero}
 use native.Mathlib.Numerals.{add-one}
 use native.Mathlib.Omega.{arith}
 use mathlib.Core.Path.{_≡_, refl, sym, ap, _∙_}
-use mathlib.Core.Bool.{true, false}
+use mathlib.Core.Bool.{Bool, true, false}
 use mathlib.Core.List.{List, [], _∷_, _++_}
 use lib.Dec.{leb}
 use lib.ListN.{length, getD, set}
 use lib.Seq.{sets}
-use borrow.Author.Tests.{le-leb, lt-leb}
+use borrow.Author.Tests.{le-leb, lt-leb, leb-true}
 use Rattle.words.specs.Choice.{pick}
 use Rattle.numerals.specs.Text.{tab, lf}
 use Rattle.numerals.specs.Hex.{wordText}
@@ -102,6 +102,20 @@ abbrev pub Wrote : Device → (l out : List ℕ) → Written → List ℕ → Ty
 Wrote d l out r after = (r ≡ written d l out) × (after ≡ writtenText d l out)
 
 module _ (d : Device) (l out : List ℕ) where
+  -- no more is written than there is room for, whatever the record and the reading
+  pub written-short : (w : Written) → w ≡ written d l out → w .length ≤ length out
+  unfolding written
+  written-short w e = rw e (by (deviceOk d) (readingOk (d .words) l) (leb (sheetLength d) (length out)) (leb-true (sheetLength d) (length out)))
+    where
+      by : (a b c : Bool) → (c ≡ true → sheetLength d ≤ length out)
+          → pick {A = Written} a
+          (pick b (pick c (record { number = 0; length = sheetLength d }) (record { number = 26; length = 0 })) (record { number = 21; length = 0 }))
+          (record { number = 13; length = 0 }) .length ≤ length out
+      by true true true r = unfold pick in r refl
+      by true true false r = unfold pick in omega arith
+      by true false c r = unfold pick in omega arith
+      by false b c r = unfold pick in omega arith
+
   pub refused-record : deviceOk d ≡ false → Wrote d l out (record { number = 13; length = 0 }) out
   unfolding written writtenText pick
   refused-record f = (rw f, rw f)

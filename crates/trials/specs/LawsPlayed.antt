@@ -21,7 +21,7 @@ use Rattle.device.specs.LawsId.{withId, with-id}
 use Rattle.sheet.specs.declared.Written.{Written}
 use Rattle.sheet.specs.Sheet.{sheetWith, sheetText, sheetLength, written, writtenText}
 use Rattle.sheet.specs.LawsSheet.{length-with, length-sheet}
-use Rattle.sheet.specs.LawsWrite.{with-text}
+use Rattle.sheet.specs.LawsWrite.{with-text, written-short}
 use Rattle.target.specs.declared.Ran.{Ran}
 use Rattle.target.specs.Chip.{chipOf}
 use Rattle.target.specs.Model.{Run}
@@ -210,18 +210,15 @@ module _ (d : Device) (served : deviceUpTo mostProgram d ≡ true) (cells : List
         let room : sheetLength (withId d id) ≤ length text = let m : sheetLength (withId d id) ≤ 46135 = served-sheet (withId d id) own in omega arith in
         rw (served-sound (withId d id) own, front-sound, le-leb (sheetLength (withId d id)) (length text) room)
 
-    pub sheet-long : w .length ≡ sheetLength (withId d id)
+    sheet-long : w .length ≡ sheetLength (withId d id)
     sheet-long = ap (λ x. x .length) (e ∙ sheet-is)
-
-    pub sheet-short : w .length ≤ 46135
-    sheet-short = let m : sheetLength (withId d id) ≤ 46135 = served-sheet (withId d id) own in let l : w .length ≡ sheetLength (withId d id) = sheet-long in omega arith
 
     pub sheet-front : (text′ : List ℕ) → text′ ≡ writtenText (withId d id) (take (d .words + readingTail) cells) text → take (w .length) text′ ≡ sheetWith id d (take (d .words + readingTail) cells)
     unfolding writtenText
     sheet-front text′ f =
         ap (take (w .length)) (f ∙ pick-true (eqb (written (withId d id) (take (d .words + readingTail) cells) text .number) 0) _ _ (eq-eqb _ 0 (ap (λ x. x .number) sheet-is)))
         ∙ (front-is text (sheetText (withId d id) (take (d .words + readingTail) cells)) (w .length) (sheet-long ∙ sym (length-sheet (withId d id) (take (d .words + readingTail) cells)))
-        (let m : w .length ≤ 46135 = sheet-short in omega arith)
+        (written-short (withId d id) (take (d .words + readingTail) cells) text w e)
         ∙ with-text d id (take (d .words + readingTail) cells))
 
 pub played-short : (id : ℕ) (d : Device) → deviceUpTo mostProgram d ≡ true → (r : Run Target) → length (playedText id d r) ≤ 46135

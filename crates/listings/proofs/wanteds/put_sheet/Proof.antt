@@ -5,7 +5,8 @@ use native.Mathlib.Omega.{arith}
 use lib.ListN.{length-replicate}
 use lib.Seq.{length-take-le}
 use Rattle.print.specs.LawsPrint.{prints-as}
-use Rattle.listings.specs.LawsLeft.{sheet-short, sheet-whole}
+use Rattle.sheet.specs.LawsWrite.{written-short}
+use Rattle.listings.specs.LawsLeft.{sheet-whole}
 use borrow.Author.Needs.{needs}
 use Rattle.listings.proofs.wanteds.put_sheet.Statement.{statement}
 use Rattle.listings.proofs.wanteds.put_sheet.Tie as tie
@@ -17,14 +18,7 @@ write-sheet-requires : tie.Need-write-sheet-requires
 write-sheet-requires c κs = search needs
 
 array-share-prefix-sheet : tie.Need-array-share-prefix-sheet
-array-share-prefix-sheet c =
-    let p = c .before .before .before .before .before .before .pre in
-    let w = c .before .before .write-sheet .ensures in
-    omega (
-      arith,
-      sheet-short (c .before .before .before .before .before .before .args .d) (p .0) _ (p .1)
-          (c .before .before .before .before .before .before .args .id) (p .2) _ (length-replicate {A = ℕ} 46135 0) _ (w .0),
-    )
+array-share-prefix-sheet c = omega (arith, length-replicate {A = ℕ} 46135 0, written-short _ _ _ _ (c .before .before .write-sheet .ensures .0))
 
 slice-aggregate-text : tie.Need-slice-aggregate-text
 slice-aggregate-text c = sym (length-take-le _ _ (array-share-prefix-sheet (c .before)))

@@ -5,7 +5,8 @@ use native.Mathlib.Omega.{arith}
 use lib.ListN.{length-replicate}
 use lib.Seq.{length-take-le}
 use Rattle.print.specs.LawsPrint.{prints-as}
-use Rattle.trials.specs.LawsPlayed.{sheet-part, sheet-short, sheet-front}
+use Rattle.sheet.specs.LawsWrite.{written-short}
+use Rattle.trials.specs.LawsPlayed.{sheet-part, sheet-front}
 use borrow.Author.Needs.{needs}
 use Rattle.trials.proofs.played.put_sheet.Statement.{statement}
 use Rattle.trials.proofs.played.put_sheet.Tie as tie
@@ -27,13 +28,7 @@ write-sheet-requires : tie.Need-write-sheet-requires
 write-sheet-requires c κs = search needs
 
 array-share-prefix-sheet : tie.Need-array-share-prefix-sheet
-array-share-prefix-sheet c = omega (
-  arith,
-  sheet-short (c .before .before .before .before .before .before .before .before .args .d)
-      (c .before .before .before .before .before .before .before .before .pre .0) _ (c .before .before .before .before .before .before .before .before .pre .1)
-      (c .before .before .before .before .before .before .before .before .args .id) (c .before .before .before .before .before .before .before .before .pre .2) _
-      (length-replicate {A = ℕ} 46135 0) _ (c .before .before .write-sheet .ensures .0),
-)
+array-share-prefix-sheet c = omega (arith, length-replicate {A = ℕ} 46135 0, written-short _ _ _ _ (c .before .before .write-sheet .ensures .0))
 
 slice-aggregate-text : tie.Need-slice-aggregate-text
 slice-aggregate-text c = sym (length-take-le _ _ (array-share-prefix-sheet (c .before)))
