@@ -2,3 +2,4 @@
 pub mod Open
 pub mod LawsOpen
 pub mod LawsBoard
+pub mod LawsWritten

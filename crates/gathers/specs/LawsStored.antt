@@ -5,12 +5,9 @@ use native.Mathlib.Omega.{arith}
 use mathlib.Core.Path.{_≡_, sym, ap, _∙_}
 use mathlib.Core.Bool.{true}
 use mathlib.Core.List.{List, _++_}
-use lib.ListN.{length, set, take, drop, replicate, length-append, length-replicate}
-use lib.Seq.{sets, sets-eq, length-take-le, take-at}
-use borrow.Author.Tests.{eq-eqb, le-leb}
-use Rattle.words.specs.Choice.{pick}
+use lib.ListN.{length, set, take, replicate, length-append, length-replicate}
+use lib.Seq.{length-take-le, take-at}
 use Rattle.words.specs.Lists.{overlay}
-use Rattle.words.specs.LawsChoice.{pick-true}
 use Rattle.words.specs.LawsLists.{same-entries, length-overlay, overlay-inside, overlay-none, overlay-more}
 use Rattle.numerals.specs.Hex.{capitalOf, wordBy}
 use Rattle.device.specs.declared.Device.{Device}
@@ -18,12 +15,10 @@ use Rattle.device.specs.Record.{deviceUpTo}
 use Rattle.device.specs.Memory.{readingTail, readingOk}
 use Rattle.device.specs.LawsMemory.{reading-each}
 use Rattle.sheet.specs.declared.Written.{Written}
-use Rattle.sheet.specs.Sheet.{sheetWith, sheetText, sheetLength, written, writtenText}
-use Rattle.sheet.specs.LawsWrite.{with-text}
-use Rattle.device.specs.LawsId.{withId, with-id}
-use Rattle.sheet.specs.LawsSheet.{length-sheet}
+use Rattle.sheet.specs.Sheet.{sheetWith, written, writtenText}
+use Rattle.device.specs.LawsId.{withId}
 use Rattle.board.specs.Open.{mostProgram}
-use Rattle.board.specs.LawsOpen.{served-sound, served-sheet}
+use Rattle.board.specs.LawsWritten.{sheet-whole}
 use Rattle.gathers.specs.Gather.{answersIn, answersOk}
 use Rattle.gathers.specs.LawsAnswers.{length-in, answer-in, answers-sound}
 
@@ -79,32 +74,7 @@ module _ (d : Device) (served : deviceUpTo mostProgram d ≡ true) where
     good = ap (readingOk (d .words)) front ∙ answers-sound (d .words) t ok
 
     -- written under the record with line 1's ID
-    module _ (id : ℕ) (small : id < 0x4000) (w : Written) (f : w ≡ written (withId d id) (take (d .words + readingTail) (words ++ rest)) (replicate 46135 0)) where
-      own : deviceUpTo mostProgram (withId d id) ≡ true
-      own = with-id d id mostProgram served small
-
-      room : sheetLength (withId d id) ≤ length {A = ℕ} (replicate 46135 0)
-      room = rw (length-replicate {A = ℕ} 46135 0) (served-sheet (withId d id) own)
-
-      is : written (withId d id) (take (d .words + readingTail) (words ++ rest)) (replicate 46135 0) ≡ record { number = 0; length = sheetLength (withId d id) }
-      unfolding written pick
-      is = rw (served-sound (withId d id) own, good, le-leb (sheetLength (withId d id)) (length {A = ℕ} (replicate 46135 0)) room)
-
-      long : w .length ≡ sheetLength (withId d id)
-      long = ap (λ x. x .length) (f ∙ is)
-
-      pub sheet-front : (text : List ℕ) → text ≡ writtenText (withId d id) (take (d .words + readingTail) (words ++ rest)) (replicate 46135 0)
-          → take (w .length) text ≡ sheetWith id d (answersIn (d .words) t)
-      unfolding writtenText
-      sheet-front text g =
-          ap (take (w .length)) (g ∙ pick-true _ _ _ (eq-eqb _ 0 (ap (λ x. x .number) is)))
-          ∙ (ap (λ l. take (w .length) (sets (replicate 46135 0) 0 (sheetText (withId d id) l))) front
-          ∙ (ap (take (w .length)) placed
-          ∙ (take-at whole _ (w .length) (length-sheet (withId d id) (answersIn (d .words) t) ∙ sym long)
-          ∙ with-text d id (answersIn (d .words) t))))
-        where
-          whole : List ℕ
-          whole = sheetText (withId d id) (answersIn (d .words) t)
-
-          placed : sets (replicate 46135 0) 0 whole ≡ whole ++ drop (0 + length whole) (replicate 46135 0)
-          placed = sets-eq whole (replicate 46135 0) 0 (rw (zero-add, length-sheet (withId d id) (answersIn (d .words) t)) room)
+    pub sheet-front : (id : ℕ) → id < 0x4000 → (w : Written) → w ≡ written (withId d id) (take (d .words + readingTail) (words ++ rest)) (replicate 46135 0)
+        → (text : List ℕ) → text ≡ writtenText (withId d id) (take (d .words + readingTail) (words ++ rest)) (replicate 46135 0) → take (w .length) text ≡ sheetWith id d (answersIn (d .words) t)
+    sheet-front id small w f text g =
+        sheet-whole d served (take (d .words + readingTail) (words ++ rest)) good id small (replicate 46135 0) (length-replicate {A = ℕ} 46135 0) w f text g ∙ ap (sheetWith id d) front

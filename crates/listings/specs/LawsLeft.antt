@@ -1,4 +1,4 @@
--- Laws of the sheet that a stream is to leave: what is filled in word by word is a reading, and there is room for its sheet.
+-- Laws of the sheet that a stream is to leave: what is filled in word by word is a reading, and the sheet of it is what is to be printed.
 use Prim.Native.Nat.{ℕ, _+_, _≤_, _<_}
 use native.Mathlib.Nat.{zero-add}
 use native.Mathlib.Omega.{arith}
@@ -7,8 +7,8 @@ use mathlib.Core.Bool.{Bool, true, false}
 use mathlib.Core.List.{List, [], _++_}
 use lib.Dec.{eqb}
 use lib.ListN.{length, getD, set, take, length-append}
-use lib.Seq.{sets, sets-eq, take-at, length-take-le}
-use borrow.Author.Tests.{eq-eqb, ne-eqb, le-leb}
+use lib.Seq.{take-at, length-take-le}
+use borrow.Author.Tests.{eq-eqb, ne-eqb}
 use Rattle.words.specs.Choice.{pick}
 use Rattle.words.specs.Lists.{build, inRange, overlay}
 use Rattle.words.specs.LawsChoice.{pick-true, pick-false}
@@ -16,22 +16,15 @@ use Rattle.words.specs.LawsTests.{by-test}
 use Rattle.words.specs.LawsLists.{length-build, getD-build, build-ext, in-range, overlay-more}
 use Rattle.words.specs.LawsWord.{words-of}
 use Rattle.device.specs.declared.Device.{Device}
-use Rattle.device.specs.Record.{deviceUpTo}
 use Rattle.device.specs.Memory.{readingTail, programmable, imageOk, readingOk}
 use Rattle.device.specs.LawsMemory.{reading-long, reading-each}
-use Rattle.sheet.specs.declared.Written.{Written}
-use Rattle.sheet.specs.Sheet.{sheetWith, sheetText, sheetLength, written, writtenText}
-use Rattle.sheet.specs.LawsWrite.{with-text}
-use Rattle.device.specs.LawsId.{withId, with-id}
-use Rattle.sheet.specs.LawsSheet.{length-sheet}
+use Rattle.sheet.specs.Sheet.{sheetWith}
 use Rattle.plan.specs.Wanted.{wanted}
 use Rattle.plan.specs.Answers.{updateNumber, freshNumber}
 use Rattle.plan.specs.Demands.{programmed}
 use Rattle.plan.specs.LawsAccepted.{accepted, accepted-fresh}
 use Rattle.plan.specs.LawsPlanWanted.{update-source, fresh-source}
 use Rattle.print.specs.Print.{refusedText}
-use Rattle.board.specs.Open.{mostProgram}
-use Rattle.board.specs.LawsOpen.{served-sound, served-sheet}
 use Rattle.listings.specs.Wanteds.{leftText}
 use Rattle.listings.specs.LawsPlans.{planNumber, knownTo}
 
@@ -132,29 +125,3 @@ module _ (fresh : Bool) (d : Device) (image reading : List ℕ) (ok : readingOk 
 pub left-refused : (number id : ℕ) (d : Device) (reading : List ℕ) → (number ≡ 0 → ⊥) → refusedText number 0 0 ≡ leftText number id d reading
 unfolding leftText
 left-refused number id d reading n = sym (pick-false (eqb number 0) _ _ (ne-eqb number 0 n))
-
--- ---- the sheet of a reading, written under the record with line 1's ID
-
-module _ (d : Device) (served : deviceUpTo mostProgram d ≡ true) (reading : List ℕ) (ok : readingOk (d .words) reading ≡ true) (id : ℕ) (small : id < 0x4000)
-    (text : List ℕ) (long : length text ≡ 46135) (w : Written) (e : w ≡ written (withId d id) reading text) where
-  own : deviceUpTo mostProgram (withId d id) ≡ true
-  own = with-id d id mostProgram served small
-
-  room : sheetLength (withId d id) ≤ length text
-  room = let m : sheetLength (withId d id) ≤ 46135 = served-sheet (withId d id) own in omega arith
-
-  sheet-is : written (withId d id) reading text ≡ record { number = 0; length = sheetLength (withId d id) }
-  unfolding written pick
-  sheet-is = rw (served-sound (withId d id) own, ok, le-leb (sheetLength (withId d id)) (length text) room)
-
-  sheet-long : w .length ≡ sheetLength (withId d id)
-  sheet-long = ap (λ x. x .length) (e ∙ sheet-is)
-
-  pub sheet-whole : (text′ : List ℕ) → text′ ≡ writtenText (withId d id) reading text → take (w .length) text′ ≡ sheetWith id d reading
-  unfolding writtenText
-  sheet-whole text′ f =
-      let stored : text′ ≡ sets text 0 (sheetText (withId d id) reading) = f ∙ pick-true (eqb (written (withId d id) reading text .number) 0) _ _ (eq-eqb _ 0 (ap (λ x. x .number) sheet-is)) in
-      let count : w .length ≡ length (sheetText (withId d id) reading) = sheet-long ∙ sym (length-sheet (withId d id) reading) in
-      let fit : 0 + length (sheetText (withId d id) reading) ≤ length text = rw (zero-add, length-sheet (withId d id) reading) room in
-      ap (take (w .length)) (stored ∙ sets-eq (sheetText (withId d id) reading) text 0 fit)
-      ∙ (take-at (sheetText (withId d id) reading) _ (w .length) (sym count) ∙ with-text d id reading)

@@ -9,19 +9,15 @@ use mathlib.Core.List.{List, [], _∷_, _++_}
 use lib.Dec.{eqb}
 use lib.ListN.{length, getD, take, drop, replicate, length-append, length-replicate, List·getD-append}
 use lib.Seq.{sets, sets-eq, length-sets, length-take-le, take-at, take-append-add, getD-take, getD-append-add}
-use borrow.Author.Tests.{eq-eqb, ne-eqb, le-leb}
-use Rattle.words.specs.Choice.{pick}
+use borrow.Author.Tests.{eq-eqb, ne-eqb}
 use Rattle.words.specs.Word.{erased}
 use Rattle.words.specs.LawsChoice.{pick-true, pick-false}
 use Rattle.words.specs.LawsWord.{words-long, words-each, words-of}
 use Rattle.device.specs.declared.Device.{Device}
 use Rattle.device.specs.Record.{deviceUpTo}
 use Rattle.device.specs.Memory.{cellsTail, readingTail, readingOk}
-use Rattle.device.specs.LawsId.{withId, with-id}
-use Rattle.sheet.specs.declared.Written.{Written}
-use Rattle.sheet.specs.Sheet.{sheetWith, sheetText, sheetLength, written, writtenText}
-use Rattle.sheet.specs.LawsSheet.{length-with, length-sheet}
-use Rattle.sheet.specs.LawsWrite.{with-text, written-short}
+use Rattle.sheet.specs.Sheet.{sheetWith}
+use Rattle.sheet.specs.LawsSheet.{length-with}
 use Rattle.target.specs.declared.Ran.{Ran}
 use Rattle.target.specs.Chip.{chipOf}
 use Rattle.target.specs.Model.{Run}
@@ -34,9 +30,8 @@ use Rattle.target.specs.LawsSound.{cells-stay}
 use Rattle.print.specs.Print.{refusedText}
 use Rattle.print.specs.LawsLines.{either-short}
 use Rattle.board.specs.Open.{mostProgram}
-use Rattle.board.specs.LawsOpen.{served-sound, served-most, served-sheet}
+use Rattle.board.specs.LawsOpen.{served-most, served-sheet}
 use Rattle.trials.specs.Trial.{mostSteps, cellsOf, played, playedText}
-use Rattle.trials.specs.LawsTyped.{front-is}
 
 -- ---- the cells of a reading
 
@@ -193,33 +188,11 @@ module _ (d : Device) (served : deviceUpTo mostProgram d ≡ true) (cells : List
   pub sheet-part : d .words + readingTail ≤ length cells
   sheet-part = let l : length cells ≡ d .words + cellsTail = cells-long (chipOf d) cells ok in omega arith
 
-  front-sound : readingOk (d .words) (take (d .words + readingTail) cells) ≡ true
+  pub front-sound : readingOk (d .words) (take (d .words + readingTail) cells) ≡ true
   unfolding readingOk
   front-sound =
       words-of (d .words + readingTail) (take (d .words + readingTail) cells) (length-take-le (d .words + readingTail) cells sheet-part)
       (λ i h. let s : getD cells i 0 < 0x4000 = (unfold soundCells in words-each (d .words + cellsTail) cells ok i) in rw (getD-take (d .words + readingTail) cells i 0 h) s)
-
-  -- written under the record with line 1's ID
-  module _ (id : ℕ) (small : id < 0x4000) (text : List ℕ) (long : length text ≡ 46135) (w : Written) (e : w ≡ written (withId d id) (take (d .words + readingTail) cells) text) where
-    own : deviceUpTo mostProgram (withId d id) ≡ true
-    own = with-id d id mostProgram served small
-
-    sheet-is : written (withId d id) (take (d .words + readingTail) cells) text ≡ record { number = 0; length = sheetLength (withId d id) }
-    unfolding written pick
-    sheet-is =
-        let room : sheetLength (withId d id) ≤ length text = let m : sheetLength (withId d id) ≤ 46135 = served-sheet (withId d id) own in omega arith in
-        rw (served-sound (withId d id) own, front-sound, le-leb (sheetLength (withId d id)) (length text) room)
-
-    sheet-long : w .length ≡ sheetLength (withId d id)
-    sheet-long = ap (λ x. x .length) (e ∙ sheet-is)
-
-    pub sheet-front : (text′ : List ℕ) → text′ ≡ writtenText (withId d id) (take (d .words + readingTail) cells) text → take (w .length) text′ ≡ sheetWith id d (take (d .words + readingTail) cells)
-    unfolding writtenText
-    sheet-front text′ f =
-        ap (take (w .length)) (f ∙ pick-true (eqb (written (withId d id) (take (d .words + readingTail) cells) text .number) 0) _ _ (eq-eqb _ 0 (ap (λ x. x .number) sheet-is)))
-        ∙ (front-is text (sheetText (withId d id) (take (d .words + readingTail) cells)) (w .length) (sheet-long ∙ sym (length-sheet (withId d id) (take (d .words + readingTail) cells)))
-        (written-short (withId d id) (take (d .words + readingTail) cells) text w e)
-        ∙ with-text d id (take (d .words + readingTail) cells))
 
 pub played-short : (id : ℕ) (d : Device) → deviceUpTo mostProgram d ≡ true → (r : Run Target) → length (playedText id d r) ≤ 46135
 unfolding playedText

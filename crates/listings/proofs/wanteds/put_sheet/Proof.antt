@@ -6,7 +6,7 @@ use lib.ListN.{length-replicate}
 use lib.Seq.{length-take-le}
 use Rattle.print.specs.LawsPrint.{prints-as}
 use Rattle.sheet.specs.LawsWrite.{written-short}
-use Rattle.listings.specs.LawsLeft.{sheet-whole}
+use Rattle.board.specs.LawsWritten.{sheet-whole}
 use borrow.Author.Needs.{needs}
 use Rattle.listings.proofs.wanteds.put_sheet.Statement.{statement}
 use Rattle.listings.proofs.wanteds.put_sheet.Tie as tie

@@ -6,7 +6,8 @@ use lib.ListN.{length-replicate}
 use lib.Seq.{length-take-le}
 use Rattle.print.specs.LawsPrint.{prints-as}
 use Rattle.sheet.specs.LawsWrite.{written-short}
-use Rattle.trials.specs.LawsPlayed.{sheet-part, sheet-front}
+use Rattle.board.specs.LawsWritten.{sheet-whole}
+use Rattle.trials.specs.LawsPlayed.{sheet-part, front-sound}
 use borrow.Author.Needs.{needs}
 use Rattle.trials.proofs.played.put_sheet.Statement.{statement}
 use Rattle.trials.proofs.played.put_sheet.Tie as tie
@@ -40,12 +41,11 @@ same-length : tie.Need-same-length
 same-length c = search needs
 
 returns : tie.Need-returns
-returns c = prints-as _ _ _ _ _ (sheet-front (c .before .before .before .before .before .before .before .before .before .before .before .before .args .d)
-    (c .before .before .before .before .before .before .before .before .before .before .before .before .pre .0) _
-    (c .before .before .before .before .before .before .before .before .before .before .before .before .pre .1)
-    (c .before .before .before .before .before .before .before .before .before .before .before .before .args .id)
-    (c .before .before .before .before .before .before .before .before .before .before .before .before .pre .2) _ (length-replicate {A = ℕ} 46135 0) _
-    (c .before .before .before .before .before .before .write-sheet .ensures .0) _ (c .before .before .before .before .before .before .write-sheet .ensures .1)) (c .before .before .text .ensures)
+returns c =
+    let a = c .before .before .before .before .before .before .before .before .before .before .before .before .args in
+    let p = c .before .before .before .before .before .before .before .before .before .before .before .before .pre in
+    let w = c .before .before .before .before .before .before .write-sheet .ensures in
+    prints-as _ _ _ _ _ (sheet-whole (a .d) (p .0) _ (front-sound (a .d) (p .0) _ (p .1)) (a .id) (p .2) _ (length-replicate {A = ℕ} 46135 0) _ (w .0) _ (w .1)) (c .before .before .text .ensures)
 
 pub put-sheet-spec : {M : Type 1} → statement M
 put-sheet-spec =
