@@ -1,4 +1,4 @@
--- The reader's tests, place by place in the order of the text, and that together they are the test of the sheet.
+-- The reader's tests of the lines after line 1, place by place in the order of the text, and that together they are the test of these lines.
 use Prim.Native.Nat.{ℕ, _+_, _-_, _*_, _/_, _%_, _<_}
 use native.Mathlib.Omega.{arith}
 use native.Mathlib.Decide.{decLt}
@@ -17,13 +17,13 @@ use Rattle.words.specs.LawsChoice.{both, first-holds, second-holds, same-test}
 use Rattle.words.specs.LawsLists.{every-at, every-all}
 use Rattle.words.specs.LawsWord.{is-word, word-lt, words-each, words-of}
 use Rattle.device.specs.declared.Device.{Device}
-use Rattle.device.specs.Record.{deviceOk, fits}
+use Rattle.device.specs.Record.{deviceOk}
 use Rattle.device.specs.Memory.{readingTail, readingOk}
 use Rattle.device.specs.LawsRecord.{Rules, rules, words-eighths}
-use Rattle.device.specs.LawsId.{fits-word}
-use Rattle.sheet.specs.Sheet.{sheetWith, sheetLength, idIn, wordsIn, sameText, sheetOk}
-use Rattle.sheet.specs.LawsStands.{stands-self, stands-whole, stands-word, word-stands}
-use Rattle.sheet.specs.LawsSheet.{Line, Parts, parts-stand, stand-parts, length-with, digits-program, digits-last, length-words, word-in, same-self, read-fits, read-sound, read-written}
+use Rattle.sheet.specs.FirstLine.{sameText}
+use Rattle.sheet.specs.Sheet.{bodyText, bodyLength, bodyWords, bodyOk}
+use Rattle.sheet.specs.LawsStands.{stands-self, stands-whole, stands-word, word-stands, same-self}
+use Rattle.sheet.specs.LawsBody.{Line, Parts, parts-stand, stand-parts, length-body, digits-program, digits-last, length-body-words, word-in, body-sound, body-written}
 
 -- ---- the tests, in the order of the text
 
@@ -40,18 +40,16 @@ unfoldable pub sheetLineOk : (text : List ℕ) (at address count : ℕ) → Bool
 sheetLineOk text at address count =
     eqb (wordBy capitalOf text at) address && fieldsOk text (at + 4) count && eqb (getD text (at + 4 + 5 * count) 0) lf
 
--- so many program lines after line 1
+-- so many program lines
 unfoldable pub linesOk : (text : List ℕ) (lines : ℕ) → Bool
-linesOk text lines = every lines (λ k. sheetLineOk text (5 + 45 * k) (8 * k) 8)
+linesOk text lines = every lines (λ k. sheetLineOk text (45 * k) (8 * k) 8)
 
--- the length, line 1, the program lines, the last line
-unfoldable pub placesOk : Device → (text : List ℕ) → Bool
-placesOk d text =
-    eqb (length text) (5 + 45 * (d .words / 8) + 50)
-    && fits d (idIn text)
-    && eqb (getD text 4 0) lf
-    && linesOk text (d .words / 8)
-    && sheetLineOk text (5 + 45 * (d .words / 8)) configBase readingTail
+-- the length, the program lines, the last line
+unfoldable pub placesOk : (words : ℕ) (text : List ℕ) → Bool
+placesOk words text =
+    eqb (length text) (45 * (words / 8) + 50)
+    && linesOk text (words / 8)
+    && sheetLineOk text (45 * (words / 8)) configBase readingTail
 
 -- ---- a line's tests and its parts
 
@@ -134,50 +132,40 @@ module _ (t : List ℕ) (at address count : ℕ) where
           end-here = p .end-here;
         }
 
--- ---- the sheet's tests and the test of the sheet
+-- ---- the tests together, and the test of a sheet's lines
 
 -- what the tests tell
-pub record Places (d : Device) (text : List ℕ) : Type 0 where
-  pub long : length text ≡ 5 + 45 * (d .words / 8) + 50
-  pub id-fits : fits d (idIn text) ≡ true
-  pub end-here : getD text 4 0 ≡ lf
-  pub line-here : (k : ℕ) → k < d .words / 8 → LineIs text (5 + 45 * k) (8 * k) 8
-  pub last-here : LineIs text (5 + 45 * (d .words / 8)) configBase readingTail
+pub record Places (words : ℕ) (text : List ℕ) : Type 0 where
+  pub long : length text ≡ 45 * (words / 8) + 50
+  pub line-here : (k : ℕ) → k < words / 8 → LineIs text (45 * k) (8 * k) 8
+  pub last-here : LineIs text (45 * (words / 8)) configBase readingTail
 
-module _ (d : Device) (t : List ℕ) where
-  pub places : placesOk d t ≡ true → Places d t
+module _ (words : ℕ) (t : List ℕ) where
+  pub places : placesOk words t ≡ true → Places words t
   unfolding placesOk linesOk
   places e =
-      let one : Bool = eqb (length t) (5 + 45 * (d .words / 8) + 50) in
-      let two : Bool = one && fits d (idIn t) in
-      let three : Bool = two && eqb (getD t 4 0) lf in
-      let four : Bool = three && linesOk t (d .words / 8) in
-      let last : Bool = sheetLineOk t (5 + 45 * (d .words / 8)) configBase readingTail in
-      let e4 : four ≡ true = first-holds four last e in
-      let e3 : three ≡ true = first-holds three (linesOk t (d .words / 8)) e4 in
-      let e2 : two ≡ true = first-holds two (eqb (getD t 4 0) lf) e3 in
+      let one : Bool = eqb (length t) (45 * (words / 8) + 50) in
+      let two : Bool = one && linesOk t (words / 8) in
+      let last : Bool = sheetLineOk t (45 * (words / 8)) configBase readingTail in
+      let e2 : two ≡ true = first-holds two last e in
       record {
-        long = eqb-true (length t) (5 + 45 * (d .words / 8) + 50) (first-holds one (fits d (idIn t)) e2);
-        id-fits = second-holds one (fits d (idIn t)) e2;
-        end-here = eqb-true (getD t 4 0) lf (second-holds two (eqb (getD t 4 0) lf) e3);
-        line-here = λ k h. line-is t (5 + 45 * k) (8 * k) 8 (every-at (d .words / 8) (λ j. sheetLineOk t (5 + 45 * j) (8 * j) 8) (second-holds three (linesOk t (d .words / 8)) e4) k h);
-        last-here = line-is t (5 + 45 * (d .words / 8)) configBase readingTail (second-holds four last e);
+        long = eqb-true (length t) (45 * (words / 8) + 50) (first-holds one (linesOk t (words / 8)) e2);
+        line-here = λ k h. line-is t (45 * k) (8 * k) 8 (every-at (words / 8) (λ j. sheetLineOk t (45 * j) (8 * j) 8) (second-holds one (linesOk t (words / 8)) e2) k h);
+        last-here = line-is t (45 * (words / 8)) configBase readingTail (second-holds two last e);
       }
 
-  pub of-places : Places d t → placesOk d t ≡ true
+  pub of-places : Places words t → placesOk words t ≡ true
   unfolding placesOk linesOk
   of-places p =
       rw (
-        eq-eqb (length t) (5 + 45 * (d .words / 8) + 50) (p .long),
-        p .id-fits,
-        eq-eqb (getD t 4 0) lf (p .end-here),
-        every-all (d .words / 8) (λ k. sheetLineOk t (5 + 45 * k) (8 * k) 8) (λ k h. is-line t (5 + 45 * k) (8 * k) 8 (p .line-here k h)),
-        is-line t (5 + 45 * (d .words / 8)) configBase readingTail (p .last-here),
+        eq-eqb (length t) (45 * (words / 8) + 50) (p .long),
+        every-all (words / 8) (λ k. sheetLineOk t (45 * k) (8 * k) 8) (λ k h. is-line t (45 * k) (8 * k) 8 (p .line-here k h)),
+        is-line t (45 * (words / 8)) configBase readingTail (p .last-here),
       )
 
 module _ (d : Device) (sound : deviceOk d ≡ true) (t : List ℕ) where
   read : List ℕ
-  read = wordsIn (d .words) t
+  read = bodyWords (d .words) t
 
   kept : Rules d
   kept = rules d sound
@@ -186,18 +174,18 @@ module _ (d : Device) (sound : deviceOk d ≡ true) (t : List ℕ) where
   eighths = words-eighths d kept
 
   -- the word in a field, by its entry
-  program-word : (line k : ℕ) → line < d .words / 8 → k < 8 → wordBy capitalOf t (5 + 45 * line + 4 + 5 * k + 1) ≡ getD read (8 * line + k) 0
+  program-word : (line k : ℕ) → line < d .words / 8 → k < 8 → wordBy capitalOf t (45 * line + 4 + 5 * k + 1) ≡ getD read (8 * line + k) 0
   unfolding read
   program-word line k p h =
       let e : d .words % 8 ≡ 0 = eighths in
       sym (word-in (d .words) t (8 * line + k) (omega arith) ∙ ap (wordBy capitalOf t) (digits-program (d .words) line k h (omega arith)))
 
-  last-word : (k : ℕ) → k < readingTail → wordBy capitalOf t (5 + 45 * (d .words / 8) + 4 + 5 * k + 1) ≡ getD read (d .words + k) 0
+  last-word : (k : ℕ) → k < readingTail → wordBy capitalOf t (45 * (d .words / 8) + 4 + 5 * k + 1) ≡ getD read (d .words + k) 0
   unfolding read
   last-word k h = sym (word-in (d .words) t (d .words + k) (omega arith) ∙ ap (wordBy capitalOf t) (digits-last (d .words) k))
 
   -- each word of a text that passes the tests
-  small : Places d t → (i : ℕ) → i < d .words + readingTail → Dec (i < d .words) → getD read i 0 < 0x4000
+  small : Places (d .words) t → (i : ℕ) → i < d .words + readingTail → Dec (i < d .words) → getD read i 0 < 0x4000
   small p i h (yes q) =
       let e : d .words % 8 ≡ 0 = eighths in
       let whole : 8 * (i / 8) + i % 8 ≡ i = omega arith in
@@ -211,40 +199,34 @@ module _ (d : Device) (sound : deviceOk d ≡ true) (t : List ℕ) where
       rw (ap (λ n. getD read n 0) whole) at
       (rw (last-word (i - d .words) column) at (p .last-here .field-here (i - d .words) column .word-small))
 
-  passes : Places d t → sheetOk d t ≡ true
-  unfolding sheetOk readingOk read
+  passes : Places (d .words) t → bodyOk (d .words) t ≡ true
+  unfolding bodyOk readingOk read
   passes p =
       let r : Rules d = kept in
       let e : d .words % 8 ≡ 0 = eighths in
-      let word : idIn t < 0x4000 = fits-word d (idIn t) (p .id-fits) in
-      let parts : Parts (idIn t) d read t = record {
-        id-here = stands-word t 0 (idIn t) refl (omega arith);
-        end-here = p .end-here;
-        line-here = λ k h. parts-of-line t (5 + 45 * k) (8 * k) 8 (8 * k) read (omega arith) (p .line-here k h) (λ j q. program-word k j h q);
-        last-here = parts-of-line t (5 + 45 * (d .words / 8)) configBase readingTail (d .words) read (omega arith) (p .last-here) last-word;
+      let parts : Parts (d .words) read t = record {
+        line-here = λ k h. parts-of-line t (45 * k) (8 * k) 8 (8 * k) read (omega arith) (p .line-here k h) (λ j q. program-word k j h q);
+        last-here = parts-of-line t (45 * (d .words / 8)) configBase readingTail (d .words) read (omega arith) (p .last-here) last-word;
       } in
-      let long : length t ≡ length (sheetWith (idIn t) d read) = p .long ∙ sym (length-with (idIn t) d read ∙ (unfold sheetLength in refl)) in
-      let same : t ≡ sheetWith (idIn t) d read = stands-whole (sheetWith (idIn t) d read) t (stand-parts (idIn t) d read t parts) long in
-      both (fits d (idIn t) && readingOk (d .words) read) (sameText t (sheetWith (idIn t) d read))
-      (both (fits d (idIn t)) (readingOk (d .words) read) (p .id-fits)
-      (words-of (d .words + readingTail) read (length-words (d .words) t) (λ i h. small p i h (decLt i (d .words)))))
+      let long : length t ≡ length (bodyText (d .words) read) = p .long ∙ sym (length-body (d .words) read ∙ (unfold bodyLength in refl)) in
+      let same : t ≡ bodyText (d .words) read = stands-whole (bodyText (d .words) read) t (stand-parts (d .words) read t parts) long in
+      both (readingOk (d .words) read) (sameText t (bodyText (d .words) read))
+      (words-of (d .words + readingTail) read (length-body-words (d .words) t) (λ i h. small p i h (decLt i (d .words))))
       (ap (sameText t) (sym same) ∙ same-self t)
 
-  stands : sheetOk d t ≡ true → Places d t
+  stands : bodyOk (d .words) t ≡ true → Places (d .words) t
   unfolding readingOk read
   stands ok =
       let r : Rules d = kept in
-      let each : (i : ℕ) → getD read i 0 < 0x4000 = words-each (d .words + readingTail) read (read-sound d t ok) in
-      let same : sheetWith (idIn t) d read ≡ t = read-written d t ok in
-      let parts : Parts (idIn t) d read t = parts-stand (idIn t) d read t (rw same (stands-self t)) in
+      let each : (i : ℕ) → getD read i 0 < 0x4000 = words-each (d .words + readingTail) read (body-sound (d .words) t ok) in
+      let same : bodyText (d .words) read ≡ t = body-written (d .words) t ok in
+      let parts : Parts (d .words) read t = parts-stand (d .words) read t (rw same (stands-self t)) in
       record {
-        long = ap length (sym same) ∙ (length-with (idIn t) d read ∙ (unfold sheetLength in refl));
-        id-fits = read-fits d t ok;
-        end-here = parts .end-here;
-        line-here = λ k h. line-of-parts t (5 + 45 * k) (8 * k) 8 (8 * k) read (omega arith) (parts .line-here k h) each;
-        last-here = line-of-parts t (5 + 45 * (d .words / 8)) configBase readingTail (d .words) read (omega arith) (parts .last-here) each;
+        long = ap length (sym same) ∙ (length-body (d .words) read ∙ (unfold bodyLength in refl));
+        line-here = λ k h. line-of-parts t (45 * k) (8 * k) 8 (8 * k) read (omega arith) (parts .line-here k h) each;
+        last-here = line-of-parts t (45 * (d .words / 8)) configBase readingTail (d .words) read (omega arith) (parts .last-here) each;
       }
 
-  -- the tests, place by place, are the test of the sheet
-  pub places-sheet : placesOk d t ≡ sheetOk d t
-  places-sheet = same-test (placesOk d t) (sheetOk d t) (λ e. passes (places d t e)) (λ e. of-places d t (stands e))
+  -- the tests, place by place, are the test of a sheet's lines
+  pub places-body : placesOk (d .words) t ≡ bodyOk (d .words) t
+  places-body = same-test (placesOk (d .words) t) (bodyOk (d .words) t) (λ e. passes (places (d .words) t e)) (λ e. of-places (d .words) t (stands e))

@@ -1,12 +1,14 @@
 -- Laws of the reader: what each test of the code and each turn of its loops comes to, what is stored, and the answers.
-use Prim.Native.Nat.{ℕ, _+_, _-_, _*_, _/_, _%_, _≤_, _<_}
+use Prim.Native.Nat.{ℕ, suc, _+_, _-_, _*_, _/_, _%_, _≤_, _<_}
 use native.Mathlib.Nat.{le-antisymm, zero-add}
+use native.Mathlib.Numerals.{add-one}
 use native.Mathlib.Omega.{arith}
 use mathlib.Core.Path.{_≡_, refl, sym, ap, _∙_}
 use mathlib.Core.Bool.{Bool, true, false, _&&_}
-use mathlib.Core.List.{List}
+use mathlib.Core.List.{List, _++_}
 use lib.Dec.{eqb, ltb}
-use lib.ListN.{length, getD, set}
+use lib.ListN.{length, getD, set, take, drop, length-drop, length-append, drop-of-length-le, replicate, length-replicate}
+use lib.Seq.{take-all, take-at, drop-cons, length-take-le}
 use borrow.Author.Tests.{eq-eqb, ne-eqb, lt-ltb, le-ltb}
 use Rattle.words.specs.Choice.{pick}
 use Rattle.words.specs.Word.{isWord}
@@ -14,17 +16,26 @@ use Rattle.words.specs.Lists.{overlay}
 use Rattle.numerals.specs.Text.{tab, lf}
 use Rattle.numerals.specs.Hex.{capitalOf, wordBy}
 use Rattle.words.specs.Address.{configBase}
-use Rattle.words.specs.LawsChoice.{pick-true, pick-false, first-holds, first-fails}
+use Rattle.words.specs.LawsChoice.{pick-true, pick-false, both, first-fails, second-fails, true-not-false}
+use Rattle.words.specs.LawsTests.{fails}
 use Rattle.words.specs.LawsLists.{every-none, every-more, every-no, getD-past, same-entries, length-overlay, overlay-inside, overlay-none, overlay-more}
-use Rattle.words.specs.LawsWord.{is-word, not-word, word-lt, words-each}
+use Rattle.words.specs.LawsWord.{words-each}
 use Rattle.device.specs.declared.Device.{Device}
-use Rattle.device.specs.Record.{deviceOk, fits}
-use Rattle.device.specs.LawsId.{fits-high}
+use Rattle.device.specs.Record.{mostWords, deviceOk, fits}
 use Rattle.device.specs.Memory.{readingTail, readingOk}
+use Rattle.device.specs.LawsRecord.{rules}
+use Rattle.table.specs.Table.{nameOk}
+use Rattle.judge.specs.declared.Sum.{Sum}
+use Rattle.judge.specs.Checksum.{checksumOf, summed}
+use Rattle.judge.specs.LawsChecksum.{summed-0}
 use Rattle.sheet.specs.declared.Line1.{Line1}
-use Rattle.sheet.specs.Sheet.{idIn, digitsAt, wordsIn, sheetOk, readNumber, readBuffer, firstLine}
-use Rattle.sheet.specs.LawsSheet.{length-words, word-in}
-use Rattle.sheet.specs.LawsPlaces.{fieldOk, fieldsOk, sheetLineOk, linesOk, placesOk}
+use Rattle.sheet.specs.FirstLine.{sameText, idIn, isNew, nameIn, sumIn, lineIn, lineOk, restIn, firstLine}
+use Rattle.sheet.specs.Sheet.{digitsAt, bodyWords, bodyOk, wordsIn, sheetOk, nameHolds, sumHolds, sheetNumber, readNumber, readBuffer}
+use Rattle.sheet.specs.LawsStands.{same-equal}
+use Rattle.sheet.specs.LawsFirstLine.{HeadOf, first-given, first-refused}
+use Rattle.sheet.specs.LawsBody.{length-body-words, word-in, body-sound}
+use Rattle.sheet.specs.LawsPlaces.{fieldOk, fieldsOk, sheetLineOk, linesOk, placesOk, places-body}
+use Rattle.sheet.specs.LawsSheet.{read-line-1, read-fits, read-sound, body-holds, taken, of-taken, of-other-name, of-other-sum, old-name, old-sum, new-name, new-sum}
 
 -- ---- the tests as the code makes them
 
@@ -55,125 +66,234 @@ module _ (t : List ℕ) (at address count : ℕ) where
     unfolding sheetLineOk
     line-end f = rw (eq-eqb (wordBy capitalOf t at) address e, f)
 
-module _ (d : Device) (t : List ℕ) where
-  pub id-high : 0x4000 ≤ idIn t → false ≡ fits d (idIn t)
-  id-high h = sym (fits-high d (idIn t) h)
-
-  pub places-long : (length t ≡ 5 + 45 * (d .words / 8) + 50 → ⊥) → false ≡ placesOk d t
+module _ (words : ℕ) (t : List ℕ) where
+  pub places-long : (length t ≡ 45 * (words / 8) + 50 → ⊥) → false ≡ placesOk words t
   unfolding placesOk
-  places-long n = rw (ne-eqb (length t) (5 + 45 * (d .words / 8) + 50) n)
+  places-long n = rw (ne-eqb (length t) (45 * (words / 8) + 50) n)
 
-  module _ (long : length t ≡ 5 + 45 * (d .words / 8) + 50) where
-    pub places-id : fits d (idIn t) ≡ false → false ≡ placesOk d t
+  module _ (long : length t ≡ 45 * (words / 8) + 50) where
+    pub places-no-lines : linesOk t (words / 8) ≡ false → false ≡ placesOk words t
     unfolding placesOk
-    places-id f = rw (eq-eqb (length t) (5 + 45 * (d .words / 8) + 50) long, f)
+    places-no-lines f = rw (eq-eqb (length t) (45 * (words / 8) + 50) long, f)
 
-    module _ (good : fits d (idIn t) ≡ true) where
-      pub places-no-end : eqb (getD t 4 0) lf ≡ false → false ≡ placesOk d t
-      unfolding placesOk
-      places-no-end f = rw (eq-eqb (length t) (5 + 45 * (d .words / 8) + 50) long, good, f)
-
-      module _ (ends : eqb (getD t 4 0) lf ≡ true) where
-        pub places-no-lines : linesOk t (d .words / 8) ≡ false → false ≡ placesOk d t
-        unfolding placesOk
-        places-no-lines f = rw (eq-eqb (length t) (5 + 45 * (d .words / 8) + 50) long, good, ends, f)
-
-        pub places-last : linesOk t (d .words / 8) ≡ true → sheetLineOk t (5 + 45 * (d .words / 8)) configBase readingTail ≡ placesOk d t
-        unfolding placesOk
-        places-last f = rw (eq-eqb (length t) (5 + 45 * (d .words / 8) + 50) long, good, ends, f)
+    pub places-last : linesOk t (words / 8) ≡ true → sheetLineOk t (45 * (words / 8)) configBase readingTail ≡ placesOk words t
+    unfolding placesOk
+    places-last f = rw (eq-eqb (length t) (45 * (words / 8) + 50) long, f)
 
 -- ---- what is stored
 
 -- every word of the buffer replaced
-pub all-stored : (words : ℕ) (t l : List ℕ) → length l ≡ words + readingTail → overlay 0 (words + readingTail) (λ i. wordBy capitalOf t (digitsAt words i)) l ≡ wordsIn words t
+pub all-stored : (words : ℕ) (t l : List ℕ) → length l ≡ words + readingTail → overlay 0 (words + readingTail) (λ i. wordBy capitalOf t (digitsAt words i)) l ≡ bodyWords words t
 all-stored words t l e =
     let f : ℕ → ℕ = λ i. wordBy capitalOf t (digitsAt words i) in
-    same-entries (overlay 0 (words + readingTail) f l) (wordsIn words t) (length-overlay 0 (words + readingTail) f l ∙ (e ∙ sym (length-words words t)))
+    same-entries (overlay 0 (words + readingTail) f l) (bodyWords words t) (length-overlay 0 (words + readingTail) f l ∙ (e ∙ sym (length-body-words words t)))
     (λ i h. let p : i < words + readingTail = rw (length-overlay, e) at h in
     overlay-inside 0 (words + readingTail) f l i (omega arith) (omega arith) (omega arith) ∙ sym (word-in words t i p))
 
 -- a sheet's words fit where they are stored
-pub stored-small : (words : ℕ) (t : List ℕ) → readingOk words (wordsIn words t) ≡ true → (i : ℕ) → i < words + readingTail → wordBy capitalOf t (digitsAt words i) < 0x4000
+pub stored-small : (words : ℕ) (t : List ℕ) → readingOk words (bodyWords words t) ≡ true → (i : ℕ) → i < words + readingTail → wordBy capitalOf t (digitsAt words i) < 0x4000
 unfolding readingOk
-stored-small words t ok i h = rw (word-in words t i h) at (words-each (words + readingTail) (wordsIn words t) ok i)
+stored-small words t ok i h = rw (word-in words t i h) at (words-each (words + readingTail) (bodyWords words t) ok i)
 
 -- where the code looks for word i
-pub digits-low : (words i : ℕ) → i < words → 5 + 45 * (i / 8) + 5 * (i % 8) + 5 ≡ digitsAt words i
+pub digits-low : (words i : ℕ) → i < words → 45 * (i / 8) + 5 * (i % 8) + 5 ≡ digitsAt words i
 unfolding digitsAt
 digits-low words i h = sym (pick-true (ltb i words) _ _ (lt-ltb i words h))
 
-pub digits-high : (words i : ℕ) → words ≤ i → 5 + 45 * (words / 8) + 5 * (i - words) + 5 ≡ digitsAt words i
+pub digits-high : (words i : ℕ) → words ≤ i → 45 * (words / 8) + 5 * (i - words) + 5 ≡ digitsAt words i
 unfolding digitsAt
 digits-high words i h = sym (pick-false (ltb i words) _ _ (le-ltb i words h))
 
+-- ---- two texts compared
+
+-- what is left to compare
+module _ (a b : List ℕ) where
+  pub same-long : (length a ≡ length b → ⊥) → false ≡ sameText a b
+  same-long n = sym (fails (sameText a b) (λ e. n (ap length (same-equal a b e))))
+
+  module _ (i : ℕ) (more : sameText a b ≡ sameText (drop i a) (drop i b)) (h : i < length a) (k : i < length b) where
+    opened : sameText (drop i a) (drop i b) ≡ (eqb (getD a i 0) (getD b i 0) && sameText (drop (suc i) a) (drop (suc i) b))
+    opened = (λ j. sameText (drop-cons a i 0 h j) (drop-cons b i 0 k j)) ∙ (unfold sameText in refl)
+
+    pub same-no : (getD a i 0 ≡ getD b i 0 → ⊥) → false ≡ sameText a b
+    same-no n = sym (more ∙ (opened ∙ first-fails (eqb (getD a i 0) (getD b i 0)) _ (ne-eqb (getD a i 0) (getD b i 0) n)))
+
+    pub same-on : getD a i 0 ≡ getD b i 0 → sameText a b ≡ sameText (drop (i + 1) a) (drop (i + 1) b)
+    same-on e = more ∙ (opened ∙ (rw (eq-eqb (getD a i 0) (getD b i 0) e, add-one i)))
+
+  pub same-done : (i : ℕ) → sameText a b ≡ sameText (drop i a) (drop i b) → length a ≤ i → length a ≡ length b → true ≡ sameText a b
+  same-done i more h e = sym (more ∙ (rw (drop-of-length-le a h, drop-of-length-le b (rw e at h)) (unfold sameText in refl)))
+
 -- ---- the answers
 
+-- the rest of a text, as the code cuts it
+module _ (t : List ℕ) (size : ℕ) where
+  rest-of : take (length t - size) (drop size t) ≡ drop size t
+  rest-of = take-all (length t - size) (drop size t) (rw length-drop (omega arith))
+
+  rest-cut : size ≡ length (lineIn t) → take (length t - size) (drop size t) ≡ restIn t
+  unfolding restIn
+  rest-cut e = rest-of ∙ ap (λ n. drop n t) e
+
+module _ (d : Device) (name t : List ℕ) where
+  judged-bad : sheetOk d t ≡ false → 14 ≡ sheetNumber d name t
+  unfolding sheetNumber pick
+  judged-bad f = rw f
+
+module _ (d : Device) (name t : List ℕ) (ok new : Bool) (id end sum size : ℕ) (h : HeadOf t ok new id end sum size) where
+  pub text-no-line : ok ≡ false → 14 ≡ sheetNumber d name t
+  text-no-line f = judged-bad d name t (fails (sheetOk d t) (λ e. true-not-false (h .test ∙ read-line-1 d t e) f))
+
+  module _ (good : ok ≡ true) where
+    pub text-no-fit : fits d id ≡ false → 14 ≡ sheetNumber d name t
+    text-no-fit f = judged-bad d name t (fails (sheetOk d t) (λ e. true-not-false (ap (fits d) (h .id-is good) ∙ read-fits d t e) f))
+
+    module _ (sound : deviceOk d ≡ true) where
+      body-is : placesOk (d .words) (take (length t - size) (drop size t)) ≡ bodyOk (d .words) (restIn t)
+      body-is = ap (placesOk (d .words)) (rest-cut t size (h .size-is good)) ∙ places-body d sound (restIn t)
+
+      pub text-no-body : placesOk (d .words) (take (length t - size) (drop size t)) ≡ false → 14 ≡ sheetNumber d name t
+      text-no-body f = judged-bad d name t (unfold sheetOk in second-fails (lineOk t && fits d (idIn t)) (bodyOk (d .words) (restIn t)) (sym body-is ∙ f))
+
+      module _ (fit : fits d id ≡ true) (body : placesOk (d .words) (take (length t - size) (drop size t)) ≡ true) where
+        pub text-good : sheetOk d t ≡ true
+        unfolding sheetOk
+        text-good =
+            both (lineOk t && fits d (idIn t)) (bodyOk (d .words) (restIn t))
+            (both (lineOk t) (fits d (idIn t)) (sym (h .test) ∙ good) (ap (fits d) (sym (h .id-is good)) ∙ fit)) (sym body-is ∙ body)
+
+        pub text-old : new ≡ false → 0 ≡ sheetNumber d name t
+        text-old f =
+            let o : isNew t ≡ false = sym (h .form good) ∙ f in
+            sym (of-taken d name t (record { ok = text-good; named = old-name d name t o; summed = old-sum d name t o }))
+
+        pub text-new : new ≡ true → HeadOf t true true id end sum size
+        text-new y = rw (good, y) at h
+
+-- the name and the sum
+module _ (d : Device) (name t : List ℕ) (id end sum size : ℕ) (h : HeadOf t true true id end sum size) (good : sheetOk d t ≡ true) where
+  is : isNew t ≡ true
+  is = sym (h .form refl)
+
+  pub fields-end-in : end ≤ length t
+  fields-end-in = h .end-in refl refl
+
+  -- the other lines, as the code cuts them
+  pub fields-body : bodyOk (d .words) (take (length t - size) (drop size t)) ≡ true
+  fields-body = ap (bodyOk (d .words)) (rest-cut t size (h .size-is refl)) ∙ body-holds d t good
+
+  module _ (same : Bool) (s : same ≡ sameText (take (end - 5) (drop 5 t)) name) where
+    named : nameHolds name t ≡ same
+    named = new-name d name t is ∙ (ap (λ n. sameText n name) (sym (h .name-is refl refl)) ∙ sym s)
+
+    pub fields-18 : same ≡ false → 18 ≡ sheetNumber d name t
+    fields-18 f = sym (of-other-name d name t good (named ∙ f))
+
+    module _ (y : same ≡ true) (own : ℕ) (o : own ≡ checksumOf d (bodyWords (d .words) (take (length t - size) (drop size t)))) where
+      own-is : own ≡ checksumOf d (wordsIn (d .words) t)
+      unfolding wordsIn
+      own-is = o ∙ ap (λ b. checksumOf d (bodyWords (d .words) b)) (rest-cut t size (h .size-is refl))
+
+      pub fields-19 : (own ≡ sum → ⊥) → 19 ≡ sheetNumber d name t
+      fields-19 n =
+          sym (of-other-sum d name t good (named ∙ y)
+          (new-sum d name t is ∙ ne-eqb _ _ (λ e. n (own-is ∙ (sym e ∙ sym (h .sum-is refl refl))))))
+
+      pub fields-0 : own ≡ sum → 0 ≡ sheetNumber d name t
+      fields-0 e =
+          sym (of-taken d name t (record {
+            ok = good;
+            named = named ∙ y;
+            summed = new-sum d name t is ∙ eq-eqb _ _ (sym (h .sum-is refl refl) ∙ (sym e ∙ own-is));
+          }))
+
+-- words stored aside, in a buffer of the most words
+abbrev pub mostReading : ℕ
+mostReading = mostWords + readingTail
+
+module _ (d : Device) (sound : deviceOk d ≡ true) where
+  pub aside-room : d .words + readingTail ≤ length (replicate {A = ℕ} mostReading 0)
+  aside-room = let few : d .words ≤ mostWords = rules d sound .most in rw (length-replicate {A = ℕ} mostReading 0) (omega arith)
+
+  pub aside-long : length (take (d .words + readingTail) (replicate {A = ℕ} mostReading 0)) ≡ d .words + readingTail
+  aside-long = length-take-le (d .words + readingTail) (replicate {A = ℕ} mostReading 0) aside-room
+
+  module _ (body : List ℕ) (good : bodyOk (d .words) body ≡ true) (words : List ℕ) (stored : words ≡ bodyWords (d .words) body) (rest : List ℕ) where
+    count : length words ≡ d .words + readingTail
+    count = ap length stored ∙ length-body-words (d .words) body
+
+    pub stored-within : d .words + readingTail ≤ length (words ++ rest)
+    stored-within = rw (length-append words rest) (omega (arith, count))
+
+    pub stored-long : length (take (d .words + readingTail) (words ++ rest)) ≡ d .words + readingTail
+    stored-long = length-take-le (d .words + readingTail) (words ++ rest) stored-within
+
+    -- and their checksum
+    pub sum-of-stored : (s : Sum) → s ≡ summed d (take (d .words + readingTail) (words ++ rest)) → s .sum ≡ checksumOf d (bodyWords (d .words) body)
+    sum-of-stored s e =
+        let these : take (d .words + readingTail) (words ++ rest) ≡ bodyWords (d .words) body = take-at words rest (d .words + readingTail) count ∙ stored in
+        ap (λ x. x .sum) (e ∙ (ap (summed d) these ∙ summed-0 d (bodyWords (d .words) body) sound (body-sound (d .words) body good)))
+
 -- what a call leaves: its number and the buffer
-abbrev pub ReadBy : Device → (text buffer : List ℕ) → (number : ℕ) → List ℕ → Type 0
-ReadBy d t b number after = (number ≡ readNumber d t b) × (after ≡ readBuffer d t b)
+abbrev pub ReadBy : Device → (name text buffer : List ℕ) → (number : ℕ) → List ℕ → Type 0
+ReadBy d name t b number after = (number ≡ readNumber d name t b) × (after ≡ readBuffer d name t b)
 
-module _ (d : Device) (t b : List ℕ) where
-  pub read-no-record : deviceOk d ≡ false → ReadBy d t b 13 b
+module _ (d : Device) (name t b : List ℕ) where
+  judged-13 : (deviceOk d && nameOk name) ≡ false → ReadBy d name t b 13 b
   unfolding readNumber readBuffer pick
-  read-no-record f = (rw f, rw f)
+  judged-13 f = (rw f, rw f)
 
-  module _ (sound : deviceOk d ≡ true) where
-    pub read-no-room : (length b ≡ d .words + readingTail → ⊥) → ReadBy d t b 12 b
+  pub read-no-record : deviceOk d ≡ false → ReadBy d name t b 13 b
+  read-no-record f = judged-13 (first-fails (deviceOk d) (nameOk name) f)
+
+  pub read-no-name : nameOk name ≡ false → ReadBy d name t b 13 b
+  read-no-name f = judged-13 (second-fails (deviceOk d) (nameOk name) f)
+
+  module _ (sound : deviceOk d ≡ true) (named : nameOk name ≡ true) where
+    good : (deviceOk d && nameOk name) ≡ true
+    good = both (deviceOk d) (nameOk name) sound named
+
+    pub read-no-room : (length b ≡ d .words + readingTail → ⊥) → ReadBy d name t b 12 b
     unfolding readNumber readBuffer pick
     read-no-room n =
         let f : eqb (length b) (d .words + readingTail) ≡ false = ne-eqb (length b) (d .words + readingTail) n in
-        (rw (sound, f), rw (sound, f))
+        (rw (good, f), rw (good, f))
 
     module _ (room : length b ≡ d .words + readingTail) where
-      holds : eqb (length b) (d .words + readingTail) ≡ true
-      holds = eq-eqb (length b) (d .words + readingTail) room
+      number-is : readNumber d name t b ≡ sheetNumber d name t
+      unfolding readNumber pick
+      number-is = rw (good, eq-eqb (length b) (d .words + readingTail) room)
 
-      pub read-no-sheet : sheetOk d t ≡ false → ReadBy d t b 14 b
-      unfolding readNumber readBuffer pick
-      read-no-sheet f = (rw (sound, holds, f), rw (sound, holds, f))
+      pub read-refused : (number : ℕ) → number ≡ sheetNumber d name t → (number ≡ 0 → ⊥) → ReadBy d name t b number b
+      unfolding readBuffer
+      read-refused number e n = (e ∙ sym number-is, sym (pick-false _ _ _ (ne-eqb (readNumber d name t b) 0 (λ z. n (e ∙ (sym number-is ∙ z))))))
 
-      pub read-all : sheetOk d t ≡ true → (after : List ℕ) → after ≡ wordsIn (d .words) t → ReadBy d t b 0 after
-      unfolding readNumber readBuffer pick
-      read-all y after e = (rw (sound, holds, y), rw (sound, holds, y) e)
+      module _ (number : ℕ) (e : number ≡ sheetNumber d name t) (z : number ≡ 0) where
+        pub read-good : sheetOk d t ≡ true
+        read-good = taken d name t (sym e ∙ z) .ok
+
+        -- the lines that are stored, as the code cuts them
+        module _ (ok new : Bool) (id end sum size : ℕ) (h : HeadOf t ok new id end sum size) where
+          cut : take (length t - size) (drop size t) ≡ restIn t
+          cut = rest-cut t size (h .size-is (h .test ∙ read-line-1 d t read-good))
+
+          pub read-lines : readingOk (d .words) (bodyWords (d .words) (take (length t - size) (drop size t))) ≡ true
+          read-lines = ap (λ x. readingOk (d .words) (bodyWords (d .words) x)) cut ∙ (unfold wordsIn in read-sound d t read-good)
+
+          pub read-all : (after : List ℕ) → after ≡ bodyWords (d .words) (take (length t - size) (drop size t)) → ReadBy d name t b 0 after
+          unfolding readBuffer wordsIn
+          read-all after f = (
+            sym z ∙ (e ∙ sym number-is),
+            f ∙ (ap (bodyWords (d .words)) cut ∙ sym (pick-true _ _ _ (eq-eqb (readNumber d name t b) 0 (number-is ∙ (sym e ∙ z))))),
+          )
 
 -- line 1 by itself
-module _ (t : List ℕ) where
-  starts : Bool
-  starts = isWord (idIn t) && eqb (getD t 4 0) lf
+module _ (t : List ℕ) (ok new : Bool) (id end sum size : ℕ) (h : HeadOf t ok new id end sum size) where
+  pub id-read : ok ≡ true → record { number = 0; id = id } ≡ firstLine t
+  id-read y = first-given t (sym (h .test) ∙ y) id (h .id-is y)
 
-  -- the ID that it gives is a word, also beside a refusal
-  pub id-small : firstLine t .id < 0x4000
-  unfolding firstLine starts
-  id-small = by starts refl
-    where
-      by : (b : Bool) → starts ≡ b → pick {A = Line1} b (record { number = 0; id = idIn t }) (record { number = 14; id = 0 }) .id < 0x4000
-      by true e = unfold pick in word-lt (idIn t) (first-holds (isWord (idIn t)) (eqb (getD t 4 0) lf) e)
-      by false e = unfold pick in omega arith
-
-  -- and of a line that is not refused it is the number that stands there
-  pub id-stands : firstLine t .number ≡ 0 → firstLine t .id ≡ idIn t
-  unfolding firstLine starts
-  id-stands = by starts
-    where
-      by : (b : Bool) → pick {A = Line1} b (record { number = 0; id = idIn t }) (record { number = 14; id = 0 }) .number ≡ 0
-          → pick {A = Line1} b (record { number = 0; id = idIn t }) (record { number = 14; id = 0 }) .id ≡ idIn t
-      by true z = unfold pick in refl
-      by false z = absurd (unfold pick in omega (arith, z))
-
-  pub id-no-word : 0x4000 ≤ wordBy capitalOf t 0 → record { number = 14; id = 0 } ≡ firstLine t
-  unfolding firstLine pick
-  id-no-word h = rw (not-word (wordBy capitalOf t 0) h)
-
-  pub id-no-end : wordBy capitalOf t 0 < 0x4000 → eqb (getD t 4 0) lf ≡ false → record { number = 14; id = 0 } ≡ firstLine t
-  unfolding firstLine pick
-  id-no-end h f = rw (is-word (wordBy capitalOf t 0) h, f)
-
-  pub id-read : wordBy capitalOf t 0 < 0x4000 → eqb (getD t 4 0) lf ≡ true → (id : ℕ) → id ≡ wordBy capitalOf t 0 → record { number = 0; id = id } ≡ firstLine t
-  unfolding firstLine pick
-  id-read h f id e = rw (is-word (wordBy capitalOf t 0) h, f, e)
-
-pub first-small : (t : List ℕ) (first : Line1) → first ≡ firstLine t → first .id < 0x4000
-first-small t first e = rw (ap (λ x. x .id) e) (id-small t)
+  pub id-refused : ok ≡ false → record { number = 14; id = 0 } ≡ firstLine t
+  id-refused f = first-refused t (sym (h .test) ∙ f)
 
 -- ---- the turns of the loops
 
@@ -197,16 +317,16 @@ module _ (t : List ℕ) (at : ℕ) where
 module _ (t : List ℕ) where
   pub lines-none : linesOk t 0 ≡ true
   unfolding linesOk
-  lines-none = every-none (λ k. sheetLineOk t (5 + 45 * k) (8 * k) 8)
+  lines-none = every-none (λ k. sheetLineOk t (45 * k) (8 * k) 8)
 
   module _ (k : ℕ) where
-    pub lines-more : linesOk t k ≡ true → sheetLineOk t (5 + 45 * k) (8 * k) 8 ≡ true → linesOk t (k + 1) ≡ true
+    pub lines-more : linesOk t k ≡ true → sheetLineOk t (45 * k) (8 * k) 8 ≡ true → linesOk t (k + 1) ≡ true
     unfolding linesOk
-    lines-more p q = every-more k (λ j. sheetLineOk t (5 + 45 * j) (8 * j) 8) p q
+    lines-more p q = every-more k (λ j. sheetLineOk t (45 * j) (8 * j) 8) p q
 
-    pub lines-no : (lines : ℕ) → k < lines → sheetLineOk t (5 + 45 * k) (8 * k) 8 ≡ false → false ≡ linesOk t lines
+    pub lines-no : (lines : ℕ) → k < lines → sheetLineOk t (45 * k) (8 * k) 8 ≡ false → false ≡ linesOk t lines
     unfolding linesOk
-    lines-no lines h f = sym (every-no lines (λ j. sheetLineOk t (5 + 45 * j) (8 * j) 8) k h f)
+    lines-no lines h f = sym (every-no lines (λ j. sheetLineOk t (45 * j) (8 * j) 8) k h f)
 
     pub lines-end : (lines : ℕ) → lines ≤ k → k ≤ lines → linesOk t k ≡ true → true ≡ linesOk t lines
     lines-end lines p q e = sym (rw (le-antisymm q p) at e)
@@ -225,6 +345,6 @@ module _ (words : ℕ) (t l : List ℕ) where
   stored-more i m at v e p q =
       rw (zero-add i) at (overlay-more 0 i (λ k. wordBy capitalOf t (digitsAt words k)) l m v e (q ∙ (ap (wordBy capitalOf t) p ∙ ap (λ k. wordBy capitalOf t (digitsAt words k)) (sym (zero-add i)))))
 
-  pub stored-end : length l ≡ words + readingTail → (i : ℕ) (m : List ℕ) → i ≤ words + readingTail → words + readingTail ≤ i → m ≡ stored words t i l → m ≡ wordsIn words t
+  pub stored-end : length l ≡ words + readingTail → (i : ℕ) (m : List ℕ) → i ≤ words + readingTail → words + readingTail ≤ i → m ≡ stored words t i l → m ≡ bodyWords words t
   unfolding stored
   stored-end long i m p q e = e ∙ (ap (λ k. overlay 0 k (λ j. wordBy capitalOf t (digitsAt words j)) l) (le-antisymm p q) ∙ all-stored words t l long)

@@ -1,306 +1,299 @@
--- Laws of a sheet: its length, what stands at each place of it, and that reading and writing undo each other.
-use Prim.Native.Nat.{ℕ, zero, suc, _+_, _-_, _*_, _/_, _%_, _<_}
-use native.Mathlib.Nat.{not-suc-le-zero, le-of-suc-le-suc, add-zero, zero-add}
+-- Laws of a sheet of either form: that reading and writing undo each other, that no text has both forms, and what each refusal says of a text.
+use Prim.Native.Nat.{ℕ, _+_, _%_, _<_}
 use native.Mathlib.Omega.{arith}
-use native.Mathlib.Decide.{decLt}
 use mathlib.Core.Path.{_≡_, refl, sym, ap, _∙_}
 use mathlib.Core.Bool.{Bool, true, false, _&&_}
-use mathlib.Core.Logic.{_↔_}
-use mathlib.Core.List.{List, [], _∷_, _++_}
-use lib.Dec.{ltb, eqb}
-use lib.ListN.{length, getD, length-append}
-use borrow.Author.Tests.{lt-ltb, le-ltb, eq-eqb, eqb-true}
-use Rattle.numerals.specs.Text.{tab, lf}
-use Rattle.numerals.specs.Hex.{capitalOf, wordBy, wordText}
-use Rattle.words.specs.Address.{configBase}
+use mathlib.Core.Logic.{_↔_, _⊎_, inl, inr}
+use mathlib.Core.List.{List, _++_}
+use lib.Dec.{eqb}
+use lib.ListN.{length, getD}
+use lib.Seq.{take-append-seam}
+use borrow.Author.Tests.{eq-eqb, eqb-true, ne-eqb}
+use Rattle.words.specs.Choice.{pick}
 use Rattle.words.specs.LawsChoice.{pick-true, pick-false, both, first-holds, second-holds, true-not-false}
-use Rattle.numerals.specs.LawsHex.{length-word-text}
-use Rattle.words.specs.LawsLists.{length-build, getD-build, built}
-use Rattle.words.specs.LawsWord.{words-long, words-each}
+use Rattle.words.specs.LawsTests.{by-test, fails}
+use Rattle.numerals.specs.Text.{tab, lf}
 use Rattle.device.specs.declared.Device.{Device}
 use Rattle.device.specs.Record.{deviceOk, fits}
 use Rattle.device.specs.Memory.{readingTail, readingOk}
 use Rattle.device.specs.LawsRecord.{rules, words-eighths}
-use Rattle.device.specs.LawsId.{fits-word, fits-own}
-use Rattle.sheet.specs.Sheet.{fields, lineText, programLines, sheetWith, sheetText, sheetLength, idIn, digitsAt, wordsIn, sameText, sheetOk}
-use Rattle.sheet.specs.LawsStands.{Stands, stands-join, stands-left, stands-right, stands-byte, byte-stands, stands-next, stands-cons, stands-self, word-stands}
+use Rattle.device.specs.LawsId.{fits-word}
+use Rattle.table.specs.Table.{nameOk}
+use Rattle.judge.specs.Checksum.{checksumOf}
+use Rattle.sheet.specs.FirstLine.{sameText, oldLine, newLine, idIn, isNew, nameIn, sumIn, lineOk, restIn}
+use Rattle.sheet.specs.Sheet.{bodyText, bodyWords, bodyOk, sheetWith, newWith, wordsIn, sheetOk, nameHolds, sumHolds, sheetNumber}
+use Rattle.sheet.specs.LawsStands.{same-self, same-equal, front-stands}
+use Rattle.sheet.specs.LawsFirstLine.{OldRead, NewRead, NewIs, old-read, new-read, new-is, old-whole, new-whole, old-end, new-tab}
+use Rattle.sheet.specs.LawsBody.{length-body-words, body-read, body-sound, body-written}
 
--- ---- lengths
+-- ---- what is written is read back
 
-pub length-fields : (n i : ℕ) (l : List ℕ) → length (fields n i l) ≡ 5 * n
-unfolding fields
-length-fields zero i l = refl
-length-fields (suc n) i l =
-    let rest : length (fields n (i + 1) l) ≡ 5 * n = length-fields n (i + 1) l in
-    rw (length-append, length-word-text) (omega arith)
+-- a sheet in the old form, read
+pub record ReadOld (id : ℕ) (d : Device) (l t : List ℕ) : Type 0 where
+  pub ok : sheetOk d t ≡ true
+  pub form : isNew t ≡ false
+  pub id-is : idIn t ≡ id
+  pub words-are : wordsIn (d .words) t ≡ l
 
-pub length-line : (address n i : ℕ) (l : List ℕ) → length (lineText address n i l) ≡ 5 + 5 * n
-unfolding lineText
-length-line address n i l = rw (length-append, length-word-text, length-append, length-fields) (omega arith)
+-- a sheet in the new form, read
+pub record ReadNew (id : ℕ) (name : List ℕ) (sum : ℕ) (d : Device) (l t : List ℕ) : Type 0 where
+  pub ok : sheetOk d t ≡ true
+  pub form : isNew t ≡ true
+  pub id-is : idIn t ≡ id
+  pub name-is : nameIn t ≡ name
+  pub sum-is : sumIn t ≡ sum
+  pub words-are : wordsIn (d .words) t ≡ l
 
-pub length-lines : (n k : ℕ) (l : List ℕ) → length (programLines n k l) ≡ 45 * n
-unfolding programLines
-length-lines zero k l = refl
-length-lines (suc n) k l =
-    let rest : length (programLines n (k + 1) l) ≡ 45 * n = length-lines n (k + 1) l in
-    rw (length-append, length-line) (omega arith)
-
-pub length-with : (id : ℕ) (d : Device) (l : List ℕ) → length (sheetWith id d l) ≡ sheetLength d
-unfolding sheetWith sheetLength
-length-with id d l = rw (length-append, length-word-text, length-append, length-lines, length-line) (omega arith)
-
-pub length-sheet : (d : Device) (l : List ℕ) → length (sheetText d l) ≡ sheetLength d
-unfolding sheetText
-length-sheet d l = length-with (d .id) d l
-
--- ---- the parts of a line and of a sheet, each at its place
-
--- a line's address, its tabs, its words and its LF
-pub record Line (at address count i : ℕ) (l t : List ℕ) : Type 0 where
-  pub address-here : Stands at (wordText address) t
-  pub tab-here : (k : ℕ) → k < count → getD t (at + 4 + 5 * k) 0 ≡ tab
-  pub word-here : (k : ℕ) → k < count → Stands (at + 4 + 5 * k + 1) (wordText (getD l (i + k) 0)) t
-  pub end-here : getD t (at + 4 + 5 * count) 0 ≡ lf
-
--- a field at its place
-record Field (at i : ℕ) (l t : List ℕ) : Type 0 where
-  tab-here : getD t at 0 ≡ tab
-  word-here : Stands (at + 1) (wordText (getD l i 0)) t
-
-fields-stand : (n at i : ℕ) (l t : List ℕ) → Stands at (fields n i l) t → (k : ℕ) → k < n → Field (at + 5 * k) (i + k) l t
-unfolding fields
-fields-stand zero at i l t p k h = absurd (not-suc-le-zero h)
-fields-stand (suc n) at i l t p zero h =
-    let here : at + 5 * 0 ≡ at = omega arith in
-    rw (here, add-zero i)
-    (record { tab-here = byte-stands at tab _ t p; word-here = stands-left (at + 1) (wordText (getD l i 0)) (fields n (i + 1) l) t (stands-next at tab _ t p) })
-fields-stand (suc n) at i l t p (suc k) h =
-    let place : at + 1 + 4 + 5 * k ≡ at + 5 * suc k = omega arith in
-    let entry : i + 1 + k ≡ i + suc k = omega arith in
-    let rest : Stands (at + 1 + 4) (fields n (i + 1) l) t = rw length-word-text at (stands-right (at + 1) (wordText (getD l i 0)) (fields n (i + 1) l) t (stands-next at tab _ t p)) in
-    rw (place, entry) at (fields-stand n (at + 1 + 4) (i + 1) l t rest k (le-of-suc-le-suc h))
-
-stand-fields : (n at i : ℕ) (l t : List ℕ) → ((k : ℕ) → k < n → Field (at + 5 * k) (i + k) l t) → Stands at (fields n i l) t
-unfolding fields Stands
-stand-fields zero at i l t h = tt
-stand-fields (suc n) at i l t h =
-    let here : at + 5 * 0 ≡ at = omega arith in
-    let first : Field at i l t = rw (here, add-zero i) at (h 0 (omega arith)) in
-    let more : (k : ℕ) → k < n → Field (at + 1 + 4 + 5 * k) (i + 1 + k) l t = λ k p.
-    let place : at + 1 + 4 + 5 * k ≡ at + 5 * suc k = omega arith in
-    let entry : i + 1 + k ≡ i + suc k = omega arith in
-    rw (place, entry) (h (suc k) (omega arith)) in
-    stands-cons at tab (wordText (getD l i 0) ++ fields n (i + 1) l) t (first .tab-here)
-    (stands-join (at + 1) (wordText (getD l i 0)) (fields n (i + 1) l) t (first .word-here)
-    (rw length-word-text (stand-fields n (at + 1 + 4) (i + 1) l t more)))
-
-module _ (at address count i : ℕ) (l t : List ℕ) where
-  pub line-stands : Stands at (lineText address count i l) t → Line at address count i l t
-  unfolding lineText
-  line-stands p =
-      let rest : Stands (at + 4) (fields count i l ++ lf ∷ []) t = rw length-word-text at (stands-right at (wordText address) (fields count i l ++ lf ∷ []) t p) in
-      let body : Stands (at + 4) (fields count i l) t = stands-left (at + 4) (fields count i l) (lf ∷ []) t rest in
-      let last : Stands (at + 4 + 5 * count) (lf ∷ []) t = rw length-fields at (stands-right (at + 4) (fields count i l) (lf ∷ []) t rest) in
-      record {
-        address-here = stands-left at (wordText address) (fields count i l ++ lf ∷ []) t p;
-        tab-here = λ k h. fields-stand count (at + 4) i l t body k h .tab-here;
-        word-here = λ k h. fields-stand count (at + 4) i l t body k h .word-here;
-        end-here = byte-stands (at + 4 + 5 * count) lf [] t last;
-      }
-
-  pub stand-line : Line at address count i l t → Stands at (lineText address count i l) t
-  unfolding lineText
-  stand-line p =
-      let body : Stands (at + 4) (fields count i l) t = stand-fields count (at + 4) i l t (λ k h. record { tab-here = p .tab-here k h; word-here = p .word-here k h }) in
-      stands-join at (wordText address) (fields count i l ++ lf ∷ []) t (p .address-here)
-      (rw length-word-text
-      (stands-join (at + 4) (fields count i l) (lf ∷ []) t body
-      (rw length-fields (stands-byte (at + 4 + 5 * count) lf t (p .end-here)))))
-
-lines-stand : (n at k : ℕ) (l t : List ℕ) → Stands at (programLines n k l) t → (j : ℕ) → j < n → Stands (at + 45 * j) (lineText (8 * (k + j)) 8 (8 * (k + j)) l) t
-unfolding programLines
-lines-stand zero at k l t p j h = absurd (not-suc-le-zero h)
-lines-stand (suc n) at k l t p zero h =
-    let here : at + 45 * 0 ≡ at = omega arith in
-    rw (here, add-zero k) (stands-left at (lineText (8 * k) 8 (8 * k) l) (programLines n (k + 1) l) t p)
-lines-stand (suc n) at k l t p (suc j) h =
-    let place : at + (5 + 5 * 8) + 45 * j ≡ at + 45 * suc j = omega arith in
-    let number : k + 1 + j ≡ k + suc j = omega arith in
-    let rest : Stands (at + (5 + 5 * 8)) (programLines n (k + 1) l) t = rw length-line at (stands-right at (lineText (8 * k) 8 (8 * k) l) (programLines n (k + 1) l) t p) in
-    rw (place, number) at (lines-stand n (at + (5 + 5 * 8)) (k + 1) l t rest j (le-of-suc-le-suc h))
-
-stand-lines : (n at k : ℕ) (l t : List ℕ) → ((j : ℕ) → j < n → Stands (at + 45 * j) (lineText (8 * (k + j)) 8 (8 * (k + j)) l) t) → Stands at (programLines n k l) t
-unfolding programLines Stands
-stand-lines zero at k l t h = tt
-stand-lines (suc n) at k l t h =
-    let here : at + 45 * 0 ≡ at = omega arith in
-    let first : Stands at (lineText (8 * k) 8 (8 * k) l) t = rw (here, add-zero k) at (h 0 (omega arith)) in
-    let more : (j : ℕ) → j < n → Stands (at + (5 + 5 * 8) + 45 * j) (lineText (8 * (k + 1 + j)) 8 (8 * (k + 1 + j)) l) t = λ j p.
-    let place : at + (5 + 5 * 8) + 45 * j ≡ at + 45 * suc j = omega arith in
-    let number : k + 1 + j ≡ k + suc j = omega arith in
-    rw (place, number) (h (suc j) (omega arith)) in
-    stands-join at (lineText (8 * k) 8 (8 * k) l) (programLines n (k + 1) l) t first
-    (rw length-line (stand-lines n (at + (5 + 5 * 8)) (k + 1) l t more))
-
--- line 1, the program lines and the last line
-pub record Parts (id : ℕ) (d : Device) (l t : List ℕ) : Type 0 where
-  pub id-here : Stands 0 (wordText id) t
-  pub end-here : getD t 4 0 ≡ lf
-  pub line-here : (k : ℕ) → k < d .words / 8 → Line (5 + 45 * k) (8 * k) 8 (8 * k) l t
-  pub last-here : Line (5 + 45 * (d .words / 8)) configBase readingTail (d .words) l t
-
-module _ (id : ℕ) (d : Device) (l t : List ℕ) where
-  -- the text of the program lines and of the last line
-  tail : List ℕ
-  tail = programLines (d .words / 8) 0 l ++ lineText configBase readingTail (d .words) l
-
-  pub parts-stand : Stands 0 (sheetWith id d l) t → Parts id d l t
-  unfolding sheetWith tail
-  parts-stand p =
-      let rest : Stands 4 (lf ∷ tail) t = rw length-word-text at (stands-right 0 (wordText id) (lf ∷ tail) t p) in
-      let body : Stands 5 tail t = stands-next 4 lf tail t rest in
-      let program : Stands 5 (programLines (d .words / 8) 0 l) t = stands-left 5 (programLines (d .words / 8) 0 l) (lineText configBase readingTail (d .words) l) t body in
-      let last : Stands (5 + 45 * (d .words / 8)) (lineText configBase readingTail (d .words) l) t = rw length-lines at
-      (stands-right 5 (programLines (d .words / 8) 0 l) (lineText configBase readingTail (d .words) l) t body) in
-      record {
-        id-here = stands-left 0 (wordText id) (lf ∷ tail) t p;
-        end-here = byte-stands 4 lf tail t rest;
-        line-here = λ k h. line-stands (5 + 45 * k) (8 * k) 8 (8 * k) l t (rw zero-add at (lines-stand (d .words / 8) 5 0 l t program k h));
-        last-here = line-stands (5 + 45 * (d .words / 8)) configBase readingTail (d .words) l t last;
-      }
-
-  pub stand-parts : Parts id d l t → Stands 0 (sheetWith id d l) t
-  unfolding sheetWith tail
-  stand-parts p =
-      let program : Stands 5 (programLines (d .words / 8) 0 l) t =
-      stand-lines (d .words / 8) 5 0 l t (λ k h. rw zero-add (stand-line (5 + 45 * k) (8 * k) 8 (8 * k) l t (p .line-here k h))) in
-      let last : Stands (5 + 45 * (d .words / 8)) (lineText configBase readingTail (d .words) l) t = stand-line (5 + 45 * (d .words / 8)) configBase readingTail (d .words) l t (p .last-here) in
-      stands-join 0 (wordText id) (lf ∷ tail) t (p .id-here)
-      (rw length-word-text
-      (stands-cons 4 lf tail t (p .end-here)
-      (stands-join 5 (programLines (d .words / 8) 0 l) (lineText configBase readingTail (d .words) l) t program (rw length-lines last))))
-
--- ---- where the words stand
-
-module _ (words : ℕ) where
-  -- word k of a program line
-  pub digits-program : (line k : ℕ) → k < 8 → 8 * line + k < words → digitsAt words (8 * line + k) ≡ 5 + 45 * line + 4 + 5 * k + 1
-  unfolding digitsAt
-  digits-program line k p h =
-      pick-true (ltb (8 * line + k) words) _ _ (lt-ltb (8 * line + k) words h)
-      ∙ (let row : (8 * line + k) / 8 ≡ line = omega arith in
-      let column : (8 * line + k) % 8 ≡ k = omega arith in
-      rw (row, column) (omega arith))
-
-  -- word k of the last line
-  pub digits-last : (k : ℕ) → digitsAt words (words + k) ≡ 5 + 45 * (words / 8) + 4 + 5 * k + 1
-  unfolding digitsAt
-  digits-last k =
-      pick-false (ltb (words + k) words) _ _ (le-ltb (words + k) words (omega arith))
-      ∙ omega arith
-
-  pub length-words : (t : List ℕ) → length (wordsIn words t) ≡ words + readingTail
-  unfolding wordsIn
-  length-words t = length-build (words + readingTail) _
-
-  pub word-in : (t : List ℕ) (i : ℕ) → i < words + readingTail → getD (wordsIn words t) i 0 ≡ wordBy capitalOf t (digitsAt words i)
-  unfolding wordsIn
-  word-in t i h = getD-build (words + readingTail) _ i h
-
--- ---- one text or another
-
-pub same-self : (t : List ℕ) → sameText t t ≡ true
-unfolding sameText
-same-self [] = refl
-same-self (c ∷ t) = both (eqb c c) (sameText t t) (eq-eqb c c refl) (same-self t)
-
-pub same-equal : (s t : List ℕ) → sameText s t ≡ true → s ≡ t
-unfolding sameText
-same-equal [] [] e = refl
-same-equal [] (c ∷ t) e = absurd (true-not-false {b = false} e refl)
-same-equal (c ∷ s) [] e = absurd (true-not-false {b = false} e refl)
-same-equal (c ∷ s) (b ∷ t) e =
-    let head : c ≡ b = eqb-true c b (first-holds (eqb c b) (sameText s t) e) in
-    let rest : s ≡ t = same-equal s t (second-holds (eqb c b) (sameText s t) e) in
-    rw (head, rest)
-
--- ---- what is written is read back, and what is read is written back
-
-module _ (d : Device) (sound : deviceOk d ≡ true) where
+module _ (d : Device) (sound : deviceOk d ≡ true) (id : ℕ) (good : fits d id ≡ true) (l : List ℕ) (ok : readingOk (d .words) l ≡ true) where
   eighths : d .words % 8 ≡ 0
   eighths = words-eighths d (rules d sound)
 
-  module _ (id : ℕ) (l t : List ℕ) (parts : Parts id d l t) (long : length l ≡ d .words + readingTail) (small : (i : ℕ) → getD l i 0 < 0x4000) where
-    -- each word is read where it stands
-    word-read : (i : ℕ) → i < d .words + readingTail → Dec (i < d .words) → getD l i 0 ≡ wordBy capitalOf t (digitsAt (d .words) i)
-    word-read i h (yes p) =
-        let e : d .words % 8 ≡ 0 = eighths in
-        let row : i / 8 < d .words / 8 = omega arith in
-        let column : i % 8 < 8 = omega arith in
-        let whole : 8 * (i / 8) + i % 8 ≡ i = omega arith in
-        let place : digitsAt (d .words) (8 * (i / 8) + i % 8) ≡ 5 + 45 * (i / 8) + 4 + 5 * (i % 8) + 1 = digits-program (d .words) (i / 8) (i % 8) column (omega arith) in
-        let read : wordBy capitalOf t (5 + 45 * (i / 8) + 4 + 5 * (i % 8) + 1) ≡ getD l (8 * (i / 8) + i % 8) 0 =
-        word-stands t (5 + 45 * (i / 8) + 4 + 5 * (i % 8) + 1) (getD l (8 * (i / 8) + i % 8) 0) (parts .line-here (i / 8) row .word-here (i % 8) column)
-        (let s : getD l (8 * (i / 8) + i % 8) 0 < 0x4000 = small (8 * (i / 8) + i % 8) in omega arith) in
-        sym (ap (λ n. wordBy capitalOf t (digitsAt (d .words) n)) (sym whole) ∙ (ap (wordBy capitalOf t) place ∙ (read ∙ ap (λ n. getD l n 0) whole)))
-    word-read i h (no p) =
-        let k : ℕ = i - d .words in
-        let whole : d .words + k ≡ i = omega arith in
-        let read : wordBy capitalOf t (5 + 45 * (d .words / 8) + 4 + 5 * k + 1) ≡ getD l (d .words + k) 0 =
-        word-stands t (5 + 45 * (d .words / 8) + 4 + 5 * k + 1) (getD l (d .words + k) 0) (parts .last-here .word-here k (omega arith))
-        (let s : getD l (d .words + k) 0 < 0x4000 = small (d .words + k) in omega arith) in
-        sym (ap (λ n. wordBy capitalOf t (digitsAt (d .words) n)) (sym whole) ∙ (ap (wordBy capitalOf t) (digits-last (d .words) k) ∙ (read ∙ ap (λ n. getD l n 0) whole)))
+  -- lines 2 and on, wherever they follow a line 1 with that ID
+  sheet-of : (t : List ℕ) → lineOk t ≡ true → idIn t ≡ id → restIn t ≡ bodyText (d .words) l → (sheetOk d t ≡ true) × (wordsIn (d .words) t ≡ l)
+  unfolding sheetOk wordsIn
+  sheet-of t first is rest =
+      let r = body-read (d .words) eighths l ok in
+      (both (lineOk t && fits d (idIn t)) (bodyOk (d .words) (restIn t)) (both (lineOk t) (fits d (idIn t)) first (ap (fits d) is ∙ good)) (ap (bodyOk (d .words)) rest ∙ r .0),
+      ap (bodyWords (d .words)) rest ∙ r .1)
 
-    read-back : wordsIn (d .words) t ≡ l
-    unfolding wordsIn
-    read-back = sym (built l (d .words + readingTail) (λ i. wordBy capitalOf t (digitsAt (d .words) i)) long (λ i h. word-read i h (decLt i (d .words))))
+  -- the old form, with an ID that fits
+  pub written-read : ReadOld id d l (sheetWith id d l)
+  unfolding sheetWith
+  written-read =
+      let t : List ℕ = oldLine id ++ bodyText (d .words) l in
+      let r : OldRead id (fits-word d id good) (bodyText (d .words) l) t = old-read id (fits-word d id good) (bodyText (d .words) l) in
+      let s : (sheetOk d t ≡ true) × (wordsIn (d .words) t ≡ l) = sheet-of t (r .line-ok) (r .id-is) (r .rest-is) in
+      record { ok = s .0; form = r .form; id-is = r .id-is; words-are = s .1 }
 
-  -- what is written with an ID that fits is a sheet, and it is read back as the same reading and the same ID
-  pub written-read : (id : ℕ) → fits d id ≡ true → (l : List ℕ) → readingOk (d .words) l ≡ true
-      → (sheetOk d (sheetWith id d l) ≡ true) × (idIn (sheetWith id d l) ≡ id) × (wordsIn (d .words) (sheetWith id d l) ≡ l)
-  unfolding readingOk sheetOk
-  written-read id good l ok =
-      let t : List ℕ = sheetWith id d l in
-      let parts : Parts id d l t = parts-stand id d l t (stands-self t) in
-      let small : id < 0x4000 = fits-word d id good in
-      let name : idIn t ≡ id = word-stands t 0 id (parts .id-here) (omega arith) in
-      let same : wordsIn (d .words) t ≡ l = read-back id l t parts (words-long (d .words + readingTail) l ok) (words-each (d .words + readingTail) l ok) in
-      (rw (name, same) (both (fits d id && readingOk (d .words) l) (sameText t (sheetWith id d l)) (both (fits d id) (readingOk (d .words) l) good ok) (same-self t)), name, same)
+  -- the new form, with an ID that fits, any name and any sum
+  module _ (name : List ℕ) (named : nameOk name ≡ true) (sum : ℕ) (low : sum < 65536) where
+    pub new-written-read : ReadNew id name sum d l (newWith id name sum d l)
+    unfolding newWith
+    new-written-read =
+        let t : List ℕ = newLine id name sum ++ bodyText (d .words) l in
+        let r : NewRead id (fits-word d id good) name named sum low (bodyText (d .words) l) t = new-read id (fits-word d id good) name named sum low (bodyText (d .words) l) in
+        let s : (sheetOk d t ≡ true) × (wordsIn (d .words) t ≡ l) = sheet-of t (r .line-ok) (r .id-is) (r .rest-is) in
+        record { ok = s .0; form = r .form; id-is = r .id-is; name-is = r .name-is; sum-is = r .sum-is; words-are = s .1 }
 
-  -- so is what is written with the record's own ID
-  pub own-read : (l : List ℕ) → readingOk (d .words) l ≡ true → (sheetOk d (sheetText d l) ≡ true) × (wordsIn (d .words) (sheetText d l) ≡ l)
-  unfolding sheetText
-  own-read l ok = let r = written-read (d .id) (fits-own d (rules d sound .id-word)) l ok in (r .0, r .2)
+-- ---- what is read is written back
 
-module _ (d : Device) (t : List ℕ) where
-  named : Bool
-  named = fits d (idIn t)
-
-  reads : Bool
-  reads = readingOk (d .words) (wordsIn (d .words) t)
-
-  again : Bool
-  again = sameText t (sheetWith (idIn t) d (wordsIn (d .words) t))
+module _ (d : Device) (t : List ℕ) (e : sheetOk d t ≡ true) where
+  pub read-line-1 : lineOk t ≡ true
+  unfolding sheetOk
+  read-line-1 = first-holds (lineOk t) (fits d (idIn t)) (first-holds (lineOk t && fits d (idIn t)) (bodyOk (d .words) (restIn t)) e)
 
   -- line 1 of a sheet fits the record
-  pub read-fits : sheetOk d t ≡ true → fits d (idIn t) ≡ true
-  unfolding sheetOk named reads again
-  read-fits e = first-holds named reads (first-holds (named && reads) again e)
+  pub read-fits : fits d (idIn t) ≡ true
+  unfolding sheetOk
+  read-fits = second-holds (lineOk t) (fits d (idIn t)) (first-holds (lineOk t && fits d (idIn t)) (bodyOk (d .words) (restIn t)) e)
+
+  pub body-holds : bodyOk (d .words) (restIn t) ≡ true
+  unfolding sheetOk
+  body-holds = second-holds (lineOk t && fits d (idIn t)) (bodyOk (d .words) (restIn t)) e
 
   -- a sheet's words are a reading
-  pub read-sound : sheetOk d t ≡ true → readingOk (d .words) (wordsIn (d .words) t) ≡ true
-  unfolding sheetOk named reads again
-  read-sound e = second-holds named reads (first-holds (named && reads) again e)
+  pub read-sound : readingOk (d .words) (wordsIn (d .words) t) ≡ true
+  unfolding wordsIn
+  read-sound = body-sound (d .words) (restIn t) body-holds
 
-  -- what is read is written back as the same bytes, with line 1's ID
-  pub read-written : sheetOk d t ≡ true → sheetWith (idIn t) d (wordsIn (d .words) t) ≡ t
-  unfolding sheetOk named reads again
-  read-written e = sym (same-equal t (sheetWith (idIn t) d (wordsIn (d .words) t)) (second-holds (named && reads) again e))
+  rest-written : bodyText (d .words) (wordsIn (d .words) t) ≡ restIn t
+  unfolding wordsIn
+  rest-written = body-written (d .words) (restIn t) body-holds
 
--- a text is a sheet just where it is what is written of some reading with some ID that fits
-pub sheet-exactly : (d : Device) → deviceOk d ≡ true → (t : List ℕ)
-    → (sheetOk d t ≡ true) ↔ ((id : ℕ) × (fits d id ≡ true) × (l : List ℕ) × (readingOk (d .words) l ≡ true) × (sheetWith id d l ≡ t))
+  -- what is read in the old form is written back as the same bytes, with line 1's ID
+  pub read-written : isNew t ≡ false → sheetWith (idIn t) d (wordsIn (d .words) t) ≡ t
+  unfolding sheetWith
+  read-written f = ap (λ r. oldLine (idIn t) ++ r) rest-written ∙ old-whole t read-line-1 f
+
+  -- and in the new form, with line 1's ID, name and sum
+  pub new-read-written : isNew t ≡ true → newWith (idIn t) (nameIn t) (sumIn t) d (wordsIn (d .words) t) ≡ t
+  unfolding newWith
+  new-read-written y = ap (λ r. newLine (idIn t) (nameIn t) (sumIn t) ++ r) rest-written ∙ new-whole t read-line-1 y
+
+  -- of which the name is a table name and the sum has four digits
+  pub new-read-fields : isNew t ≡ true → NewIs t
+  new-read-fields y = new-is t read-line-1 y
+
+pub length-words : (words : ℕ) (t : List ℕ) → length (wordsIn words t) ≡ words + readingTail
+unfolding wordsIn
+length-words words t = length-body-words words (restIn t)
+
+-- ---- exactly which texts
+
+-- the sheet of some reading in the old form, with an ID that fits
+abbrev pub OldSheet : Device → List ℕ → Type 0
+OldSheet d t = (id : ℕ) × (fits d id ≡ true) × (l : List ℕ) × (readingOk (d .words) l ≡ true) × (sheetWith id d l ≡ t)
+
+-- the sheet of some reading in the new form, with an ID that fits and this name, and a sum of which something is told
+abbrev pub NewSheet : Device → (name : List ℕ) → (List ℕ → ℕ → Type 0) → List ℕ → Type 0
+NewSheet d name told t =
+    (id : ℕ) × (fits d id ≡ true) × (l : List ℕ) × (readingOk (d .words) l ≡ true) × (sum : ℕ) × (sum < 65536) × told l sum × (newWith id name sum d l ≡ t)
+
+-- a text is a sheet in the old form just where it is what is written of some reading with some ID that fits
+pub sheet-exactly : (d : Device) → deviceOk d ≡ true → (t : List ℕ) → ((sheetOk d t ≡ true) × (isNew t ≡ false)) ↔ OldSheet d t
 sheet-exactly d sound t = (
-  (λ e. (idIn t, read-fits d t e, wordsIn (d .words) t, read-sound d t e, read-written d t e)),
-  (λ w. ap (sheetOk d) (sym (w .4)) ∙ written-read d sound (w .0) (w .1) (w .2) (w .3) .0),
+  (λ e. (idIn t, read-fits d t (e .0), wordsIn (d .words) t, read-sound d t (e .0), read-written d t (e .0) (e .1))),
+  (λ w. let r : ReadOld (w .0) d (w .2) (sheetWith (w .0) d (w .2)) = written-read d sound (w .0) (w .1) (w .2) (w .3) in
+  (ap (sheetOk d) (sym (w .4)) ∙ r .ok, ap isNew (sym (w .4)) ∙ r .form)),
 )
+
+-- no text has both forms, whatever the records
+pub told-apart : (id : ℕ) (d : Device) (l : List ℕ) (id′ : ℕ) (name : List ℕ) (sum : ℕ) (d′ : Device) (l′ : List ℕ) → sheetWith id d l ≡ newWith id′ name sum d′ l′ → ⊥
+told-apart id d l id′ name sum d′ l′ e =
+    let a : getD (sheetWith id d l) 4 0 ≡ lf = (unfold sheetWith in old-end id (oldLine id ++ bodyText (d .words) l) (front-stands (oldLine id) (oldLine id ++ bodyText (d .words) l) (take-append-seam (oldLine id) (bodyText (d .words) l)))) in
+    let b : getD (newWith id′ name sum d′ l′) 4 0 ≡ tab = (unfold newWith in new-tab id′ name sum (newLine id′ name sum ++ bodyText (d′ .words) l′)
+    (front-stands (newLine id′ name sum) (newLine id′ name sum ++ bodyText (d′ .words) l′) (take-append-seam (newLine id′ name sum) (bodyText (d′ .words) l′)))) in
+    let c : getD (sheetWith id d l) 4 0 ≡ getD (newWith id′ name sum d′ l′) 4 0 = ap (λ t. getD t 4 0) e in
+    omega (arith, a, b, c)
+
+-- ---- the numbers
+
+-- what each of 0, 18 and 19 says
+module _ (d : Device) (name t : List ℕ) where
+  pub record Taken : Type 0 where
+    pub ok : sheetOk d t ≡ true
+    pub named : nameHolds name t ≡ true
+    pub summed : sumHolds d t ≡ true
+
+  pub taken : sheetNumber d name t ≡ 0 → Taken
+  unfolding sheetNumber
+  taken = by (sheetOk d t) (nameHolds name t) (sumHolds d t) refl refl refl
+    where
+      by : (a b c : Bool) → sheetOk d t ≡ a → nameHolds name t ≡ b → sumHolds d t ≡ c → pick {A = ℕ} a (pick {A = ℕ} b (pick {A = ℕ} c 0 19) 18) 14 ≡ 0 → Taken
+      by true true true p q r z = record { ok = p; named = q; summed = r }
+      by true true false p q r z = absurd (unfold pick in omega (arith, z))
+      by true false c p q r z = absurd (unfold pick in omega (arith, z))
+      by false b c p q r z = absurd (unfold pick in omega (arith, z))
+
+  pub of-taken : Taken → sheetNumber d name t ≡ 0
+  unfolding sheetNumber pick
+  of-taken k = rw (k .ok, k .named, k .summed)
+
+  pub other-name : sheetNumber d name t ≡ 18 → (sheetOk d t ≡ true) × (nameHolds name t ≡ false)
+  unfolding sheetNumber
+  other-name = by (sheetOk d t) (nameHolds name t) (sumHolds d t) refl refl
+    where
+      by : (a b c : Bool) → sheetOk d t ≡ a → nameHolds name t ≡ b → pick {A = ℕ} a (pick {A = ℕ} b (pick {A = ℕ} c 0 19) 18) 14 ≡ 18 → (sheetOk d t ≡ true) × (nameHolds name t ≡ false)
+      by true true true p q z = absurd (unfold pick in omega (arith, z))
+      by true true false p q z = absurd (unfold pick in omega (arith, z))
+      by true false c p q z = (p, q)
+      by false b c p q z = absurd (unfold pick in omega (arith, z))
+
+  pub of-other-name : (sheetOk d t ≡ true) → (nameHolds name t ≡ false) → sheetNumber d name t ≡ 18
+  unfolding sheetNumber pick
+  of-other-name p q = rw (p, q)
+
+  pub other-sum : sheetNumber d name t ≡ 19 → (sheetOk d t ≡ true) × (nameHolds name t ≡ true) × (sumHolds d t ≡ false)
+  unfolding sheetNumber
+  other-sum = by (sheetOk d t) (nameHolds name t) (sumHolds d t) refl refl refl
+    where
+      by : (a b c : Bool) → sheetOk d t ≡ a → nameHolds name t ≡ b → sumHolds d t ≡ c → pick {A = ℕ} a (pick {A = ℕ} b (pick {A = ℕ} c 0 19) 18) 14 ≡ 19
+          → (sheetOk d t ≡ true) × (nameHolds name t ≡ true) × (sumHolds d t ≡ false)
+      by true true true p q r z = absurd (unfold pick in omega (arith, z))
+      by true true false p q r z = (p, q, r)
+      by true false c p q r z = absurd (unfold pick in omega (arith, z))
+      by false b c p q r z = absurd (unfold pick in omega (arith, z))
+
+  pub of-other-sum : (sheetOk d t ≡ true) → (nameHolds name t ≡ true) → (sumHolds d t ≡ false) → sheetNumber d name t ≡ 19
+  unfolding sheetNumber pick
+  of-other-sum p q r = rw (p, q, r)
+
+-- the name and the sum by themselves
+module _ (d : Device) (name t : List ℕ) where
+  pub old-name : isNew t ≡ false → nameHolds name t ≡ true
+  unfolding nameHolds
+  old-name f = pick-false (isNew t) _ _ f
+
+  pub old-sum : isNew t ≡ false → sumHolds d t ≡ true
+  unfolding sumHolds
+  old-sum f = pick-false (isNew t) _ _ f
+
+  module _ (y : isNew t ≡ true) where
+    pub new-name : nameHolds name t ≡ sameText (nameIn t) name
+    unfolding nameHolds
+    new-name = pick-true (isNew t) _ _ y
+
+    pub new-sum : sumHolds d t ≡ eqb (sumIn t) (checksumOf d (wordsIn (d .words) t))
+    unfolding sumHolds
+    new-sum = pick-true (isNew t) _ _ y
+
+pub sum-small : (d : Device) (l : List ℕ) → checksumOf d l < 65536
+unfolding checksumOf
+sum-small d l = omega arith
+
+module _ (d : Device) (sound : deviceOk d ≡ true) (name : List ℕ) (named : nameOk name ≡ true) (t : List ℕ) where
+  -- what a sheet in the new form gives
+  given : (e : sheetOk d t ≡ true) → isNew t ≡ true → (other : List ℕ) → nameIn t ≡ other → (told : List ℕ → ℕ → Type 0) → told (wordsIn (d .words) t) (sumIn t) → NewSheet d other told t
+  given e y other is told says =
+      (idIn t, read-fits d t e, wordsIn (d .words) t, read-sound d t e, sumIn t, new-read-fields d t e y .sum-small, says,
+      ap (λ n. newWith (idIn t) n (sumIn t) d (wordsIn (d .words) t)) (sym is) ∙ new-read-written d t e y)
+
+  -- and what is read of one
+  taken-as : (other : List ℕ) → nameOk other ≡ true → (told : List ℕ → ℕ → Type 0) → (w : NewSheet d other told t) → ReadNew (w .0) other (w .4) d (w .2) t
+  taken-as other ok told w =
+      rw (w .7) at (new-written-read d sound (w .0) (w .1) (w .2) (w .3) other ok (w .4) (w .5))
+
+  same-name : nameHolds name t ≡ true → isNew t ≡ true → nameIn t ≡ name
+  same-name h y = same-equal (nameIn t) name (sym (new-name d name t y) ∙ h)
+
+  -- not refused: the old or the new sheet of some reading with an ID that fits, this name and its checksum
+  pub new-exactly : (sheetNumber d name t ≡ 0) ↔ (OldSheet d t ⊎ NewSheet d name (λ l sum. sum ≡ checksumOf d l) t)
+  new-exactly = (there, back)
+    where
+      there : sheetNumber d name t ≡ 0 → OldSheet d t ⊎ NewSheet d name (λ l sum. sum ≡ checksumOf d l) t
+      there z =
+          let k : Taken d name t = taken d name t z in
+          by-test (isNew t)
+          (λ y. inr (given (k .ok) y name (same-name (k .named) y) (λ l sum. sum ≡ checksumOf d l) (eqb-true _ _ (sym (new-sum d name t y) ∙ k .summed))))
+          (λ f. inl (sheet-exactly d sound t .0 (k .ok, f)))
+
+      back : OldSheet d t ⊎ NewSheet d name (λ l sum. sum ≡ checksumOf d l) t → sheetNumber d name t ≡ 0
+      back (inl w) =
+          let o : (sheetOk d t ≡ true) × (isNew t ≡ false) = sheet-exactly d sound t .1 w in
+          of-taken d name t (record { ok = o .0; named = old-name d name t (o .1); summed = old-sum d name t (o .1) })
+      back (inr w) =
+          let r : ReadNew (w .0) name (w .4) d (w .2) t = taken-as name named (λ l sum. sum ≡ checksumOf d l) w in
+          of-taken d name t (record {
+            ok = r .ok;
+            named = new-name d name t (r .form) ∙ (ap (λ n. sameText n name) (r .name-is) ∙ same-self name);
+            summed = new-sum d name t (r .form) ∙ eq-eqb _ _ (r .sum-is ∙ (w .6 ∙ ap (checksumOf d) (sym (r .words-are))));
+          })
+
+  -- 18: the new sheet of some reading with an ID that fits, and another name
+  pub eighteen-exactly : (sheetNumber d name t ≡ 18) ↔ ((other : List ℕ) × (nameOk other ≡ true) × (other ≡ name → ⊥) × NewSheet d other (λ l sum. Unit) t)
+  eighteen-exactly = (there, back)
+    where
+      must : nameHolds name t ≡ false → isNew t ≡ true
+      must f = by-test (isNew t) (λ y. y) (λ n. absurd (true-not-false (old-name d name t n) f))
+
+      there : sheetNumber d name t ≡ 18 → (other : List ℕ) × (nameOk other ≡ true) × (other ≡ name → ⊥) × NewSheet d other (λ l sum. Unit) t
+      there z =
+          let k : (sheetOk d t ≡ true) × (nameHolds name t ≡ false) = other-name d name t z in
+          let y : isNew t ≡ true = must (k .1) in
+          (nameIn t, new-read-fields d t (k .0) y .name-ok,
+          (λ e. true-not-false (new-name d name t y ∙ (ap (λ n. sameText n name) e ∙ same-self name)) (k .1)),
+          given (k .0) y (nameIn t) refl (λ l sum. Unit) tt)
+
+      back : ((other : List ℕ) × (nameOk other ≡ true) × (other ≡ name → ⊥) × NewSheet d other (λ l sum. Unit) t) → sheetNumber d name t ≡ 18
+      back w =
+          let r : ReadNew (w .3 .0) (w .0) (w .3 .4) d (w .3 .2) t = taken-as (w .0) (w .1) (λ l sum. Unit) (w .3) in
+          of-other-name d name t (r .ok) (fails (nameHolds name t) (λ e. w .2 (sym (r .name-is) ∙ same-name e (r .form))))
+
+  -- 19: the new sheet of some reading with an ID that fits, this name, and another sum
+  pub nineteen-exactly : (sheetNumber d name t ≡ 19) ↔ NewSheet d name (λ l sum. (sum ≡ checksumOf d l → ⊥)) t
+  nineteen-exactly = (there, back)
+    where
+      must : sumHolds d t ≡ false → isNew t ≡ true
+      must f = by-test (isNew t) (λ y. y) (λ n. absurd (true-not-false (old-sum d name t n) f))
+
+      there : sheetNumber d name t ≡ 19 → NewSheet d name (λ l sum. (sum ≡ checksumOf d l → ⊥)) t
+      there z =
+          let k : (sheetOk d t ≡ true) × (nameHolds name t ≡ true) × (sumHolds d t ≡ false) = other-sum d name t z in
+          let y : isNew t ≡ true = must (k .2) in
+          given (k .0) y name (same-name (k .1) y) (λ l sum. (sum ≡ checksumOf d l → ⊥)) (λ e. true-not-false (new-sum d name t y ∙ eq-eqb _ _ e) (k .2))
+
+      back : NewSheet d name (λ l sum. (sum ≡ checksumOf d l → ⊥)) t → sheetNumber d name t ≡ 19
+      back w =
+          let r : ReadNew (w .0) name (w .4) d (w .2) t = taken-as name named (λ l sum. (sum ≡ checksumOf d l → ⊥)) w in
+          of-other-sum d name t (r .ok) (new-name d name t (r .form) ∙ (ap (λ n. sameText n name) (r .name-is) ∙ same-self name))
+          (new-sum d name t (r .form) ∙ ne-eqb _ _ (λ e. w .6 (sym (r .sum-is) ∙ (e ∙ ap (checksumOf d) (r .words-are)))))

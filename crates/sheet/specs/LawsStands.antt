@@ -4,13 +4,19 @@ use native.Mathlib.Nat.{le-of-suc-le-suc, not-suc-le-zero, add-suc, suc-add, add
 use native.Mathlib.Numerals.{add-one}
 use native.Mathlib.Omega.{arith}
 use native.Mathlib.Decide.{decLt, decLe}
-use mathlib.Core.Path.{_≡_, sym, ap, _∙_}
+use mathlib.Core.Path.{_≡_, refl, sym, ap, _∙_}
+use mathlib.Core.Bool.{true, false}
 use mathlib.Core.List.{List, [], _∷_, _++_}
-use lib.ListN.{length, getD}
+use lib.Dec.{eqb}
+use lib.ListN.{length, getD, take, drop}
+use lib.Seq.{length-take-le, getD-take, getD-drop}
+use borrow.Author.Tests.{eq-eqb, eqb-true}
 use Rattle.words.specs.Choice.{pick}
 use Rattle.numerals.specs.Hex.{capitalOf, joined, byteBy, wordBy, digitText, byteText, wordText}
 use Rattle.numerals.specs.LawsHex.{within-yes, within-low, within-high, joined-both, joined-no-high, joined-no-low, digit-text-low, digit-text-high, capital-of-text, byte-of-text}
+use Rattle.words.specs.LawsChoice.{both, first-holds, second-holds, true-not-false}
 use Rattle.words.specs.LawsLists.{same-entries}
+use Rattle.sheet.specs.FirstLine.{sameText}
 
 -- the bytes of s stand in the text from a place on
 unfoldable pub Stands : (at : ℕ) → (s text : List ℕ) → Type 0
@@ -73,6 +79,39 @@ stands-self t = each-stands 0 t t (λ k h. rw zero-add)
 pub stands-whole : (s t : List ℕ) → Stands 0 s t → length t ≡ length s → t ≡ s
 stands-whole s t p e =
     same-entries t s e (λ k h. let q : k < length s = rw e at h in ap (λ i. getD t i 0) (sym (zero-add k)) ∙ stands-each 0 s t p k q)
+
+-- a part of the text stands at its own place
+pub stands-part : (at n : ℕ) (t : List ℕ) → n ≤ length (drop at t) → Stands at (take n (drop at t)) t
+stands-part at n t h =
+    let long : length (take n (drop at t)) ≡ n = length-take-le n (drop at t) h in
+    each-stands at (take n (drop at t)) t (λ k p. sym (getD-take n (drop at t) k 0 (omega (arith, long)) ∙ getD-drop at t k 0))
+
+-- what stands at the start of a text is its front
+pub stands-front : (s t : List ℕ) → Stands 0 s t → length s ≤ length t → take (length s) t ≡ s
+stands-front s t p h =
+    let long : length (take (length s) t) ≡ length s = length-take-le (length s) t h in
+    same-entries (take (length s) t) s long
+    (λ k q. getD-take (length s) t k 0 (omega (arith, long)) ∙ (ap (λ i. getD t i 0) (sym (zero-add k)) ∙ stands-each 0 s t p k (omega (arith, long))))
+
+pub front-stands : (s t : List ℕ) → take (length s) t ≡ s → Stands 0 s t
+front-stands s t e = each-stands 0 s t (λ k h. ap (λ i. getD t i 0) (zero-add k) ∙ (sym (getD-take (length s) t k 0 h) ∙ ap (λ l. getD l k 0) e))
+
+-- ---- one text or another
+
+pub same-self : (t : List ℕ) → sameText t t ≡ true
+unfolding sameText
+same-self [] = refl
+same-self (c ∷ t) = both (eqb c c) (sameText t t) (eq-eqb c c refl) (same-self t)
+
+pub same-equal : (s t : List ℕ) → sameText s t ≡ true → s ≡ t
+unfolding sameText
+same-equal [] [] e = refl
+same-equal [] (c ∷ t) e = absurd (true-not-false {b = false} e refl)
+same-equal (c ∷ s) [] e = absurd (true-not-false {b = false} e refl)
+same-equal (c ∷ s) (b ∷ t) e =
+    let head : c ≡ b = eqb-true c b (first-holds (eqb c b) (sameText s t) e) in
+    let rest : s ≡ t = same-equal s t (second-holds (eqb c b) (sameText s t) e) in
+    rw (head, rest)
 
 -- ---- digits
 

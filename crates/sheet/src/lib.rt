@@ -1,16 +1,10 @@
-// Board sheets: reader and writer. No call here has a `requires`.
+// Board sheets of either form, read. No call here has a `requires`.
+mod body;
+mod first;
 mod read;
-mod write;
 
 pub use read::read_id;
 pub use read::read_sheet;
-pub use write::write_sheet;
-
-// The length of the sheet that was written; or 13, 21 or 26, and nothing else.
-pub struct Written {
-    pub number: u8,
-    pub length: usize,
-}
 
 // The ID that a sheet's first line gives; or 14, and nothing else.
 pub struct Line1 {

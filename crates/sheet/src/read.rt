@@ -1,175 +1,127 @@
 // The sheet reader: the whole text is judged before the first word is stored.
-use crate::LF;
 use crate::Line1;
-use crate::TAB;
+use crate::body::places_ok;
+use crate::body::store;
+use crate::first::Head;
+use crate::first::read_line;
 use device::Device;
+use device::MOST_WORDS;
 use device::READING_TAIL;
-use words::CONFIG_BASE;
-use words::WORD_LIMIT;
 ghost use mathlib.Core.Path.{_≡_};
 ghost use mathlib.Core.Bool.{true};
-ghost use Prim.Native.Nat.{_+_, _*_, _≤_, _<_};
-ghost use lib.Dec.{eqb};
-ghost use lib.ListN.{length, getD};
-ghost use Rattle.device.specs.Memory.{readingTail, readingOk};
-ghost use Rattle.device.specs.Record.{mostWords, fits};
-ghost use Rattle.sheet.specs.Sheet.{mostProgramLines, idIn, digitsAt, wordsIn, readNumber, readBuffer, firstLine};
-ghost use Rattle.sheet.specs.LawsPlaces.{fieldOk, fieldsOk, sheetLineOk, linesOk, placesOk};
+ghost use Rattle.device.specs.Record.{deviceOk};
+ghost use Rattle.judge.specs.Checksum.{checksumOf};
+ghost use Rattle.sheet.specs.FirstLine.{sameText, firstLine};
+ghost use Rattle.sheet.specs.Sheet.{bodyWords, bodyOk, sheetOk, sheetNumber, readNumber, readBuffer};
+ghost use Rattle.sheet.specs.LawsFirstLine.{HeadOf};
 
-// Reads a sheet into a buffer: 13, 12 or 14 where it cannot, and then the buffer stays.
-pub fn read_sheet(d: Device, text: &[u8], buffer: &mut [u16]) -> u8
-    ensures { λ r. ⌜ (r ≡ readNumber d (now (text .entry)) (now (buffer .entry))) × (now (buffer .exit) ≡ readBuffer d (now (text .entry)) (now (buffer .entry))) ⌝ }
+// The most words that a reading has.
+const MOST_READING: usize = (MOST_WORDS as usize) + READING_TAIL;
+
+// Reads a sheet of either form into a buffer: 13, 12, 14, 18 or 19 where it cannot, and then the buffer stays.
+pub fn read_sheet(d: Device, name: &[u8], text: &[u8], buffer: &mut [u16]) -> u8
+    ensures { λ r. ⌜ (r ≡ readNumber d (now (name .entry)) (now (text .entry)) (now (buffer .entry))) × (now (buffer .exit) ≡ readBuffer d (now (name .entry)) (now (text .entry)) (now (buffer .entry))) ⌝ }
 {
     if device::judge(d) != 0 {
+        return 13;
+    }
+    if table::is_name(name) {} else {
         return 13;
     }
     let program = d.words as usize;
     if buffer.len() != program + READING_TAIL {
         return 12;
     }
-    if places_ok(d, text) {} else {
-        return 14;
+    let number = judge_text(d, name, text);
+    if number != 0 {
+        return number;
     }
-    store(program, text, buffer);
+    let first = read_line(text);
+    let at = first.size;
+    store(program, &text[at..], buffer);
     0
 }
 
-// The ID on a sheet's first line, or 14 where no record's ID and LF stand there.
+// The ID on line 1 of either form, or 14 where line 1 is of neither.
 pub fn read_id(text: &[u8]) -> Line1
     ensures { λ r. ⌜ r ≡ firstLine (now (text .entry)) ⌝ }
 {
-    let id = numerals::hex::capital_word(text, 0);
-    if WORD_LIMIT as u32 <= id {
-        return NO_ID;
+    let first = read_line(text);
+    if first.ok {
+        return Line1 {
+            number: 0,
+            id: first.id,
+        };
     }
-    if byte_is(text, 4, LF) {} else {
-        return NO_ID;
-    }
-    Line1 {
-        number: 0,
-        id: id as u16,
-    }
+    NO_ID
 }
 
 const NO_ID: Line1 = Line1 { number: 14, id: 0 };
 
-// Whether a text has the length of a sheet and everything in it stands at its place.
-fn places_ok(d: Device, text: &[u8]) -> bool
-    requires { ⌜ d .words ≤ mostWords ⌝ }
-    ensures { λ r. ⌜ r ≡ placesOk d (now (text .entry)) ⌝ }
+// A sheet under a sound record with this name: 14, 18, 19 or 0.
+fn judge_text(d: Device, name: &[u8], text: &[u8]) -> u8
+    requires { ⌜ deviceOk d ≡ true ⌝ }
+    ensures { λ r. ⌜ r ≡ sheetNumber d (now (name .entry)) (now (text .entry)) ⌝ }
 {
-    let lines = (d.words as usize) / 8;
-    if text.len() != 5 + 45 * lines + 50 {
-        return false;
+    let first = read_line(text);
+    if first.ok {} else {
+        return 14;
     }
-    if id_ok(d, text) {} else {
-        return false;
+    if device::fits(d, first.id) {} else {
+        return 14;
     }
-    if byte_is(text, 4, LF) {} else {
-        return false;
+    let at = first.size;
+    if places_ok(d.words, &text[at..]) {} else {
+        return 14;
     }
-    if lines_ok(text, lines) {} else {
-        return false;
+    if first.new {
+        return judge_fields(d, name, text, first);
     }
-    line_ok(text, 5 + 45 * lines, CONFIG_BASE, READING_TAIL)
+    0
 }
 
-// Whether line 1's number fits the record.
-fn id_ok(d: Device, text: &[u8]) -> bool
-    ensures { λ r. ⌜ r ≡ fits d (idIn (now (text .entry))) ⌝ }
+// The name and the sum of a sheet in the new form, of which all else is sound: 18, 19 or 0.
+fn judge_fields(d: Device, name: &[u8], text: &[u8], first: Head) -> u8
+    requires { ⌜ (deviceOk d ≡ true) × (HeadOf (now text) true true (first .id) (first .end) (first .sum) (first .size)) × (sheetOk d (now text) ≡ true) ⌝ }
+    ensures { λ r. ⌜ r ≡ sheetNumber d (now (name .entry)) (now (text .entry)) ⌝ }
 {
-    let first = numerals::hex::capital_word(text, 0);
-    if WORD_LIMIT as u32 <= first {
+    let end = first.end;
+    if same(&text[5..end], name) {} else {
+        return 18;
+    }
+    let at = first.size;
+    if sum_in(d, &text[at..]) != first.sum {
+        return 19;
+    }
+    0
+}
+
+// The checksum of the words in a sheet's lines. They are stored aside, since a refusal leaves the caller's buffer.
+fn sum_in(d: Device, body: &[u8]) -> u16
+    requires { ⌜ (deviceOk d ≡ true) × (bodyOk (d .words) (now body) ≡ true) ⌝ }
+    ensures { λ r. ⌜ r ≡ checksumOf d (bodyWords (d .words) (now (body .entry))) ⌝ }
+{
+    let mut words = [0u16; MOST_READING];
+    let program = d.words as usize;
+    let count = program + READING_TAIL;
+    store(program, body, &mut words[..count]);
+    let summed = judge::checksum(d, &words[..count]);
+    summed.sum
+}
+
+// Whether two texts are the same.
+fn same(a: &[u8], b: &[u8]) -> bool
+    ensures { λ r. ⌜ r ≡ sameText (now (a .entry)) (now (b .entry)) ⌝ }
+{
+    if a.len() != b.len() {
         return false;
     }
-    device::fits(d, first as u16)
-}
-
-// The program lines, each with its address.
-fn lines_ok(text: &[u8], lines: usize) -> bool
-    requires { ⌜ (lines ≤ mostProgramLines) × (5 + 45 * lines ≤ length (now text)) ⌝ }
-    ensures { λ r. ⌜ r ≡ linesOk (now (text .entry)) lines ⌝ }
-{
-    let mut k = 0;
-    while k < lines {
-        if line_ok(text, 5 + 45 * k, (8 * k) as u16, 8) {} else {
-            return false;
-        }
-        k += 1;
-    }
-    true
-}
-
-// An address, so many words, LF.
-fn line_ok(text: &[u8], at: usize, address: u16, count: usize) -> bool
-    requires { ⌜ at + 5 + 5 * count ≤ length (now text) ⌝ }
-    ensures { λ r. ⌜ r ≡ sheetLineOk (now (text .entry)) at address count ⌝ }
-{
-    if numerals::hex::capital_word(text, at) != address as u32 {
-        return false;
-    }
-    if fields_ok(text, at + 4, count) {} else {
-        return false;
-    }
-    byte_is(text, at + 4 + 5 * count, LF)
-}
-
-// So many words, a tab before each.
-fn fields_ok(text: &[u8], at: usize, count: usize) -> bool
-    requires { ⌜ at + 5 * count ≤ length (now text) ⌝ }
-    ensures { λ r. ⌜ r ≡ fieldsOk (now (text .entry)) at count ⌝ }
-{
-    let mut k = 0;
-    while k < count {
-        if field_ok(text, at + 5 * k) {} else {
-            return false;
-        }
-        k += 1;
-    }
-    true
-}
-
-// A tab and a word.
-fn field_ok(text: &[u8], at: usize) -> bool
-    requires { ⌜ at < length (now text) ⌝ }
-    ensures { λ r. ⌜ r ≡ fieldOk (now (text .entry)) at ⌝ }
-{
-    if byte_is(text, at, TAB) {} else {
-        return false;
-    }
-    numerals::hex::capital_word(text, at + 1) < WORD_LIMIT as u32
-}
-
-// Whether a byte stands at a place: past the end none does.
-fn byte_is(text: &[u8], at: usize, byte: u8) -> bool
-    requires { ⌜ 0 < byte ⌝ }
-    ensures { λ r. ⌜ r ≡ eqb (getD (now (text .entry)) at 0) byte ⌝ }
-{
-    if at < text.len() {
-        return text[at] == byte;
-    }
-    false
-}
-
-// Stores the words of a sheet that was judged.
-fn store(program: usize, text: &[u8], buffer: &mut [u16])
-    requires { ⌜ (program ≤ mostWords) × (length (now buffer) ≡ program + readingTail) × (readingOk program (wordsIn program (now text)) ≡ true) ⌝ }
-    ensures { λ _. ⌜ now (buffer .exit) ≡ wordsIn program (now (text .entry)) ⌝ }
-{
     let mut i = 0;
-    while i < buffer.len() {
-        buffer[i] = numerals::hex::capital_word(text, digits_at(program, i)) as u16;
+    while i < a.len() {
+        if a[i] != b[i] {
+            return false;
+        }
         i += 1;
     }
-}
-
-// Where the digits of a word stand.
-fn digits_at(program: usize, i: usize) -> usize
-    requires { ⌜ (program ≤ mostWords) × (i < program + readingTail) ⌝ }
-    ensures { λ r. ⌜ r ≡ digitsAt program i ⌝ }
-{
-    if i < program {
-        return 5 + 45 * (i / 8) + 5 * (i % 8) + 5;
-    }
-    5 + 45 * (program / 8) + 5 * (i - program) + 5
+    true
 }

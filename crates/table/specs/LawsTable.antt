@@ -210,24 +210,24 @@ module _ (id : ℕ) (l : List ℕ) (ls : List (List ℕ)) where
     unfolding hasId
     has-here = rw e
 
-    start-here : startOf id (l ∷ ls) ≡ 0
+    pub start-here : startOf id (l ∷ ls) ≡ 0
     unfolding startOf pick
     start-here = rw e
 
-    line-here : lineWith id (l ∷ ls) ≡ l
+    pub line-here : lineWith id (l ∷ ls) ≡ l
     unfolding lineWith pick
     line-here = rw e
 
   module _ (n : fits (deviceOf l) id ≡ false) where
-    has-later : hasId id (l ∷ ls) ≡ hasId id ls
+    pub has-later : hasId id (l ∷ ls) ≡ hasId id ls
     unfolding hasId
     has-later = rw n
 
-    start-later : startOf id (l ∷ ls) ≡ length l + 1 + startOf id ls
+    pub start-later : startOf id (l ∷ ls) ≡ length l + 1 + startOf id ls
     unfolding startOf pick
     start-later = rw n
 
-    line-later : lineWith id (l ∷ ls) ≡ lineWith id ls
+    pub line-later : lineWith id (l ∷ ls) ≡ lineWith id ls
     unfolding lineWith pick
     line-later = rw n
 
@@ -294,7 +294,7 @@ sought-none id text from so h =
 -- ---- the record of an ID
 
 -- in a sound table every line is sound
-line-with-ok : (id : ℕ) (ls : List (List ℕ)) → linesUpTo mostWords ls ≡ true → hasId id ls ≡ true → lineUpTo mostWords (lineWith id ls) ≡ true
+pub line-with-ok : (id : ℕ) (ls : List (List ℕ)) → linesUpTo mostWords ls ≡ true → hasId id ls ≡ true → lineUpTo mostWords (lineWith id ls) ≡ true
 unfolding linesUpTo hasId lineWith
 line-with-ok id [] a h = absurd (true-not-false h refl)
 line-with-ok id (l ∷ ls) a h = by (fits (deviceOf l) id) h (line-with-ok id ls (second-holds (lineUpTo mostWords l) (linesUpTo mostWords ls) a))

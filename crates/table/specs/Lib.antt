@@ -2,6 +2,7 @@
 pub mod Table
 pub mod LawsLine
 pub mod LawsTable
+pub mod LawsName
 pub mod LawsClash
 pub mod LawsSix
 pub mod LawsLimit

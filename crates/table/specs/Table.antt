@@ -4,7 +4,7 @@ use mathlib.Core.Bool.{Bool, true, false, _&&_, _||_, not}
 use mathlib.Core.List.{List, [], _∷_}
 use lib.Dec.{ltb, leb, eqb}
 use lib.Bits.{bitAnd}
-use lib.ListN.{length, getD}
+use lib.ListN.{length, getD, take, drop}
 use Rattle.words.specs.Choice.{pick, unless}
 use Rattle.words.specs.Word.{erased}
 use Rattle.numerals.specs.Text.{tab, lf, split}
@@ -170,3 +170,7 @@ foundUpTo most text id =
 -- what the call that finds an ID's record answers
 unfoldable pub foundIn : List ℕ → ℕ → Found
 foundIn text id = foundUpTo mostWords text id
+
+-- the name of what was found, as it stands in the table's text
+unfoldable pub nameAt : (text : List ℕ) → Found → List ℕ
+nameAt text f = take (f .«name_len») (drop (f .«name_at») text)

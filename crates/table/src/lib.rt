@@ -3,6 +3,7 @@ mod line;
 mod table;
 
 use device::Device;
+pub use line::is_name;
 pub use table::find_device;
 pub use table::judge_table;
 

@@ -64,7 +64,7 @@ fn read_fields(line: &[u8], a: usize, b: usize, c: usize, d: usize, e: usize, f:
     requires { ⌜ Tabbed (now line) a b c d e f ⌝ }
     ensures { λ r. ⌜ LineRead (now (line .entry)) (r .ok) (r .name) (r .device) ⌝ }
 {
-    if name_ok(&line[..a]) {} else {
+    if is_name(&line[..a]) {} else {
         return no_line();
     }
     let id = hex_field(&line[a + 1..b]);
@@ -187,8 +187,8 @@ fn mask_after(line: &[u8], end: usize) -> u32
     hex_field(&line[end + 1..])
 }
 
-// A name: 1 to 16 characters, 20h to 7Eh.
-fn name_ok(f: &[u8]) -> bool
+// Whether a text is a name: 1 to 16 characters, 20h to 7Eh.
+pub fn is_name(f: &[u8]) -> bool
     ensures { λ r. ⌜ r ≡ nameOk (now (f .entry)) ⌝ }
 {
     if f.len() < 1 {

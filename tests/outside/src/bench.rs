@@ -1,8 +1,9 @@
 //! What each program prints, from the content of its files.
 
-use crate::board::{board, record};
+use crate::board::{board, record, Opened};
 use crate::device::Device;
 use crate::refusal::Refusal;
+use crate::sheet::Form;
 use crate::words::{capital, capital_word, spelled, NOT_GIVEN, WORD_MAX};
 use crate::{hex, judge, model, print, sheet, streams};
 
@@ -33,34 +34,52 @@ pub fn stream_text(stream: &[u8]) -> Vec<u8> {
         .collect()
 }
 
-/// The sheet of words with line 1 of the board's sheet: a `diff` of the two shows only words that change.
+/// The sheet of words in the old form, with the ID on line 1 of the board's sheet: a `diff` of the two, both in the old
+/// form, shows only words that change.
 fn sheet_like(board: &[u8], d: &Device, words: &[u16]) -> Vec<u8> {
-    let id = sheet::first_line(board).expect("an opened sheet has a line 1");
-    sheet::text(&Device { id, ..*d }, words)
+    let first = sheet::first_line(board).expect("an opened sheet has a line 1");
+    sheet::text(&Device { id: first.id, ..*d }, words)
 }
 
 pub fn checksum(table: &[u8], sheet: &[u8]) -> Printed {
-    printed(board(table, sheet).and_then(|(d, reading)| {
+    printed(board(table, sheet).and_then(|Opened { d, reading, .. }| {
         let sum = judge::checksum(&d, &reading)?;
         Ok((0, print::sum(sum)))
     }))
 }
 
 pub fn verify(table: &[u8], sheet: &[u8], wanted: &[u8]) -> Printed {
-    printed(board(table, sheet).and_then(|(d, reading)| {
-        let wanted = sheet::reading(&d, wanted).ok_or(14)?;
+    printed(board(table, sheet).and_then(|Opened { d, name, reading }| {
+        let wanted = sheet::judged(&d, &name, wanted)?;
         let (number, address, count) = judge::verify(&d, &wanted, &reading);
         Ok((number, print::verdict(number, address, count as u64)))
     }))
 }
 
-/// Reads line 1 of the sheet alone.
+/// The sheet itself in a form.
+fn moved(form: Form, table: &[u8], sheet: &[u8]) -> Printed {
+    printed(board(table, sheet).and_then(|Opened { d, name, .. }| {
+        let text = sheet::in_form(form, &d, &name, sheet)?;
+        Ok((0, text))
+    }))
+}
+
+pub fn newsheet(table: &[u8], sheet: &[u8]) -> Printed {
+    moved(Form::New, table, sheet)
+}
+
+pub fn oldsheet(table: &[u8], sheet: &[u8]) -> Printed {
+    moved(Form::Old, table, sheet)
+}
+
+/// Reads the ID on line 1 of the sheet alone.
 pub fn readback(table: &[u8], sheet: &[u8]) -> Printed {
-    printed(record(table, sheet).map(|d| (0, stream_text(&streams::read_back_stream(&d)))))
+    let listed = record(table, sheet);
+    printed(listed.map(|l| (0, stream_text(&streams::read_back_stream(&l.device)))))
 }
 
 pub fn update(table: &[u8], sheet: &[u8], text: &[u8]) -> Printed {
-    printed(board(table, sheet).and_then(|(d, reading)| {
+    printed(board(table, sheet).and_then(|Opened { d, reading, .. }| {
         let image = hex::image(&d, text, hex::PROGRAM_TEXT_MAX)?;
         if let Some(number) = streams::update_refusal(&d, &image, &reading) {
             return Err(number.into());
@@ -74,7 +93,7 @@ pub fn update(table: &[u8], sheet: &[u8], text: &[u8]) -> Printed {
 }
 
 pub fn fresh(table: &[u8], sheet: &[u8], text: &[u8]) -> Printed {
-    printed(board(table, sheet).and_then(|(d, reading)| {
+    printed(board(table, sheet).and_then(|Opened { d, reading, .. }| {
         let image = hex::image(&d, text, hex::PROGRAM_TEXT_MAX)?;
         if !d.fits(reading[d.p() + 6]) {
             return Err(22.into());
@@ -91,7 +110,7 @@ pub fn fresh(table: &[u8], sheet: &[u8], text: &[u8]) -> Printed {
 
 /// The sheet that an update is to leave, or what the update refuses.
 pub fn wanted(table: &[u8], sheet: &[u8], text: &[u8]) -> Printed {
-    printed(board(table, sheet).and_then(|(d, reading)| {
+    printed(board(table, sheet).and_then(|Opened { d, reading, .. }| {
         let image = hex::image(&d, text, hex::PROGRAM_TEXT_MAX)?;
         match streams::update_refusal(&d, &image, &reading) {
             Some(number) => Err(number.into()),
@@ -105,7 +124,7 @@ pub fn wanted(table: &[u8], sheet: &[u8], text: &[u8]) -> Printed {
 
 /// The sheet that a fresh programming is to leave: 8004h to 8006h are the board's.
 pub fn wanted_fresh(table: &[u8], sheet: &[u8], text: &[u8]) -> Printed {
-    printed(board(table, sheet).and_then(|(d, reading)| {
+    printed(board(table, sheet).and_then(|Opened { d, reading, .. }| {
         let image = hex::image(&d, text, hex::PROGRAM_TEXT_MAX)?;
         if !d.fits(reading[d.p() + 6]) {
             return Err(22.into());
@@ -153,7 +172,7 @@ fn steps_of(text: &[u8]) -> Result<Vec<u8>, Refusal> {
 
 /// The sheet after a whole run; as in a run, the stream's form is judged before its first step.
 pub fn trial(table: &[u8], sheet: &[u8], text: &[u8]) -> Printed {
-    printed(board(table, sheet).and_then(|(d, reading)| {
+    printed(board(table, sheet).and_then(|Opened { d, reading, .. }| {
         let stream = steps_of(text)?;
         let mut cells = reading;
         cells.extend([WORD_MAX; 2]);
@@ -175,7 +194,7 @@ pub fn whole_image(d: &Device, reading: &[u16]) -> Vec<u16> {
 
 /// Nobody can see the program words of a protected board, so there is no copy of it.
 pub fn dump(table: &[u8], sheet: &[u8]) -> Printed {
-    printed(board(table, sheet).and_then(|(d, reading)| {
+    printed(board(table, sheet).and_then(|Opened { d, reading, .. }| {
         if d.protected(&reading) {
             return Err(23.into());
         }
@@ -198,9 +217,10 @@ fn answered(d: &Device, text: &[u8]) -> Option<Vec<u16>> {
     d.is_reading(&words).then_some(words)
 }
 
-/// Reads line 1 of the sheet alone; 21 where the words are not a reading.
+/// Reads the ID on line 1 of the sheet alone; 21 where the words are not a reading.
 pub fn gather(table: &[u8], sheet: &[u8], text: &[u8]) -> Printed {
-    printed(record(table, sheet).and_then(|d| {
+    printed(record(table, sheet).and_then(|listed| {
+        let d = listed.device;
         let words = answered(&d, text).ok_or(21)?;
         Ok((0, sheet_like(sheet, &d, &words)))
     }))

@@ -1,9 +1,10 @@
 //! Every call that can be asked: its name, the kinds of its fields, the numbers it can give, and our own answer.
 
-use crate::device::{self, Device};
+use crate::device::{self, Device, Listed};
 use crate::field::Kind::{self, Bytes, HexBytes, Latches, Num, Words};
 use crate::field::{self, Field};
 use crate::model::{self, Registers};
+use crate::sheet::Form;
 use crate::words as w;
 use crate::{bench, board, hex, judge, print, sheet, streams};
 
@@ -30,21 +31,31 @@ impl Call {
         self.kinds.starts_with(&[Num(16); D])
     }
 
+    /// Whether it moves a sheet between its forms, by a table.
+    pub fn moves(&self) -> bool {
+        ["sheet.to_new", "sheet.to_old"].contains(&self.name)
+    }
+
     /// Whether it answers a number first, 15 before all others, for the table that is its first field.
     pub fn judges_table(&self) -> bool {
         let number_first = ["device.judge_table", "device.find_device"];
-        number_first.contains(&self.name) || self.name.starts_with("board.")
+        number_first.contains(&self.name) || self.name.starts_with("board.") || self.moves()
+    }
+
+    /// Whether it is about a record: one that it takes, or that a move finds.
+    pub fn about_record(&self) -> bool {
+        self.takes_record() || self.moves()
     }
 
     /// Whether it is about a device: a record, or program words and a list.
     pub fn about_device(&self) -> bool {
-        self.takes_record() || self.kinds == [Num(16), Words]
+        self.about_record() || self.kinds == [Num(16), Words]
     }
 }
 
 /// What 0 and 1 mean for calls that give no refusal numbers.
 pub const CLASSES: &str =
-    "words.*, print.*, next_line, line_from, first_number, third_line: 0 found or done, 1 nothing there (no room); is_words, is_image, is_reading, is_protected, programmable, fits: the answer; \
+    "words.*, print.*, next_line, line_from, first_number, third_line: 0 found or done, 1 nothing there (no room); is_words, is_name, is_image, is_reading, is_protected, programmable, fits: the answer; \
      under_mask: 0 a configuration word, 1 another entry; plan.wanted: 0 given by the image, 1 not";
 
 #[derive(Clone, Debug)]
@@ -81,9 +92,13 @@ impl Request {
         judged.then(|| field::bytes(&self.fields, 0))
     }
 
-    /// The record that it is about, if its call takes one.
+    /// The record that it is about, if its call takes one or finds one to move by.
     pub fn device(&self) -> Option<Device> {
-        self.call().takes_record().then(|| device_at(&self.fields))
+        let f = &self.fields;
+        if self.call().moves() {
+            return Some(board::answered(field::bytes(f, 0), field::bytes(f, 1)).device);
+        }
+        self.call().takes_record().then(|| device_at(f))
     }
 }
 
@@ -203,37 +218,41 @@ fn put_text(text: &[u8], out: &[u8]) -> Reply {
     reply(u32::from(text.len() > out.len()), laid(text, out))
 }
 
-/// Number and record.
-fn opened(number: u32, table: &[u8], sheet: &[u8]) -> Reply {
+/// Number, record, and where the name stands.
+fn listed(number: u32, line: &Listed) -> Reply {
     let mut fields = vec![number.into()];
-    fields.extend(device_fields(&board::answered(table, sheet)));
+    fields.extend(device_fields(&line.device));
+    fields.extend([line.name.start.into(), line.name.len().into()]);
     reply(number, fields)
 }
 
 fn open_record(f: &[Field]) -> Reply {
     let (table, sheet) = (field::bytes(f, 0), field::bytes(f, 1));
     let number = board::record(table, sheet).err().map_or(0, |r| r.number);
-    opened(number, table, sheet)
+    listed(number, &board::answered(table, sheet))
 }
 
 fn open_board(f: &[Field]) -> Reply {
     let (table, sheet) = (field::bytes(f, 0), field::bytes(f, 1));
     let mut buffer = vec![n16(f, 2); board::READING_MAX];
     let number = board::open(table, sheet, &mut buffer);
-    let mut answer = opened(number, table, sheet);
+    let mut answer = listed(number, &board::answered(table, sheet));
     answer.fields.push(buffer.into());
     answer
 }
 
 fn find_device(f: &[Field]) -> Reply {
-    let (number, d, name) = match device::find(field::bytes(f, 0), n16(f, 1)) {
-        Ok(listed) => (0, listed.device, listed.name),
-        Err(n) => (n, Device::NONE, 0..0),
-    };
-    let mut fields = vec![number.into()];
-    fields.extend(device_fields(&d));
-    fields.extend([name.start.into(), name.len().into()]);
-    reply(number, fields)
+    match device::find(field::bytes(f, 0), n16(f, 1)) {
+        Ok(line) => listed(0, &line),
+        Err(number) => listed(number, &Listed::NONE),
+    }
+}
+
+/// A sheet moved to a form, into a lent buffer.
+fn moved(f: &[Field], form: Form) -> Reply {
+    let mut out = field::bytes(f, 2).to_vec();
+    let (number, length) = board::move_into(form, field::bytes(f, 0), field::bytes(f, 1), &mut out);
+    written(number, length, out)
 }
 
 fn step(f: &[Field]) -> Reply {
@@ -499,6 +518,12 @@ pub static CALLS: &[Call] = &[
         own: find_device,
     },
     Call {
+        name: "device.is_name",
+        kinds: &[Bytes],
+        classes: &[0, 1],
+        own: |f| truth(device::is_name(field::bytes(f, 0))),
+    },
+    Call {
         name: "device.is_image",
         kinds: &[Num(16), Words],
         classes: &[0, 1],
@@ -608,12 +633,14 @@ pub static CALLS: &[Call] = &[
             Num(16),
             Num(16),
             Bytes,
+            Bytes,
             Words,
         ],
-        classes: &[0, 12, 13, 14],
+        classes: &[0, 12, 13, 14, 18, 19],
         own: |f| {
-            let mut buffer = field::words(f, D + 1).to_vec();
-            let number = sheet::read(&device_at(f), field::bytes(f, D), &mut buffer);
+            let mut buffer = field::words(f, D + 2).to_vec();
+            let (name, text) = (field::bytes(f, D), field::bytes(f, D + 1));
+            let number = sheet::read(&device_at(f), name, text, &mut buffer);
             reply(number, vec![number.into(), buffer.into()])
         },
     },
@@ -622,9 +649,10 @@ pub static CALLS: &[Call] = &[
         kinds: &[Bytes],
         classes: &[0, 14],
         own: |f| {
-            let id = sheet::first_line(field::bytes(f, 0));
-            let number: u32 = if id.is_some() { 0 } else { 14 };
-            reply(number, vec![number.into(), id.unwrap_or(0).into()])
+            let first = sheet::first_line(field::bytes(f, 0));
+            let number: u32 = if first.is_some() { 0 } else { 14 };
+            let id = first.map_or(0, |first| first.id);
+            reply(number, vec![number.into(), id.into()])
         },
     },
     Call {
@@ -645,6 +673,39 @@ pub static CALLS: &[Call] = &[
             let (number, length) = sheet::write(&device_at(f), field::words(f, D), &mut out);
             written(number, length, out)
         },
+    },
+    Call {
+        name: "sheet.write_new_sheet",
+        kinds: &[
+            Num(16),
+            Num(16),
+            Num(16),
+            Num(16),
+            Num(16),
+            Num(16),
+            Bytes,
+            Words,
+            Bytes,
+        ],
+        classes: &[0, 13, 21, 26],
+        own: |f| {
+            let mut out = field::bytes(f, D + 2).to_vec();
+            let (name, reading) = (field::bytes(f, D), field::words(f, D + 1));
+            let (number, length) = sheet::write_new(&device_at(f), name, reading, &mut out);
+            written(number, length, out)
+        },
+    },
+    Call {
+        name: "sheet.to_new",
+        kinds: &[Bytes, Bytes, Bytes],
+        classes: &[0, 14, 15, 16, 18, 19, 26],
+        own: |f| moved(f, Form::New),
+    },
+    Call {
+        name: "sheet.to_old",
+        kinds: &[Bytes, Bytes, Bytes],
+        classes: &[0, 14, 15, 16, 18, 19, 26],
+        own: |f| moved(f, Form::Old),
     },
     Call {
         name: HEX_READER,
@@ -840,13 +901,13 @@ pub static CALLS: &[Call] = &[
     Call {
         name: "board.open_board",
         kinds: &[Bytes, Bytes, Num(16)],
-        classes: &[0, 14, 15, 16, 17],
+        classes: &[0, 14, 15, 16, 17, 18, 19],
         own: open_board,
     },
     Call {
         name: "bench.checksum",
         kinds: &[Bytes, Bytes, Bytes],
-        classes: &[0, 14, 15, 16, 17],
+        classes: &[0, 14, 15, 16, 17, 18, 19],
         own: |f| {
             shown(
                 &bench::checksum(field::bytes(f, 0), field::bytes(f, 1)),
@@ -857,7 +918,7 @@ pub static CALLS: &[Call] = &[
     Call {
         name: "bench.verify",
         kinds: &[Bytes, Bytes, Bytes, Bytes],
-        classes: &[0, 14, 15, 16, 17, 40, 41],
+        classes: &[0, 14, 15, 16, 17, 18, 19, 40, 41],
         own: |f| {
             let printed = bench::verify(field::bytes(f, 0), field::bytes(f, 1), field::bytes(f, 2));
             shown(&printed, field::bytes(f, 3))
@@ -878,7 +939,7 @@ pub static CALLS: &[Call] = &[
         name: "bench.update",
         kinds: &[Bytes, Bytes, Bytes, Bytes],
         classes: &[
-            0, 1, 2, 3, 4, 5, 6, 7, 8, 9, 10, 11, 14, 15, 16, 17, 22, 23, 24,
+            0, 1, 2, 3, 4, 5, 6, 7, 8, 9, 10, 11, 14, 15, 16, 17, 18, 19, 22, 23, 24,
         ],
         own: |f| {
             let printed = bench::update(field::bytes(f, 0), field::bytes(f, 1), field::bytes(f, 2));
@@ -888,7 +949,9 @@ pub static CALLS: &[Call] = &[
     Call {
         name: "bench.fresh",
         kinds: &[Bytes, Bytes, Bytes, Bytes],
-        classes: &[0, 1, 2, 3, 4, 5, 6, 7, 8, 9, 10, 11, 14, 15, 16, 17, 22],
+        classes: &[
+            0, 1, 2, 3, 4, 5, 6, 7, 8, 9, 10, 11, 14, 15, 16, 17, 18, 19, 22,
+        ],
         own: |f| {
             let printed = bench::fresh(field::bytes(f, 0), field::bytes(f, 1), field::bytes(f, 2));
             shown(&printed, field::bytes(f, 3))
@@ -898,7 +961,7 @@ pub static CALLS: &[Call] = &[
         name: "bench.wanted",
         kinds: &[Bytes, Bytes, Bytes, Bytes],
         classes: &[
-            0, 1, 2, 3, 4, 5, 6, 7, 8, 9, 10, 11, 14, 15, 16, 17, 22, 23, 24,
+            0, 1, 2, 3, 4, 5, 6, 7, 8, 9, 10, 11, 14, 15, 16, 17, 18, 19, 22, 23, 24,
         ],
         own: |f| {
             let printed = bench::wanted(field::bytes(f, 0), field::bytes(f, 1), field::bytes(f, 2));
@@ -908,7 +971,9 @@ pub static CALLS: &[Call] = &[
     Call {
         name: "bench.wanted_fresh",
         kinds: &[Bytes, Bytes, Bytes, Bytes],
-        classes: &[0, 1, 2, 3, 4, 5, 6, 7, 8, 9, 10, 11, 14, 15, 16, 17, 22],
+        classes: &[
+            0, 1, 2, 3, 4, 5, 6, 7, 8, 9, 10, 11, 14, 15, 16, 17, 18, 19, 22,
+        ],
         own: |f| {
             let printed =
                 bench::wanted_fresh(field::bytes(f, 0), field::bytes(f, 1), field::bytes(f, 2));
@@ -918,7 +983,7 @@ pub static CALLS: &[Call] = &[
     Call {
         name: "bench.trial",
         kinds: &[Bytes, Bytes, Bytes, Bytes],
-        classes: &[0, 14, 15, 16, 17, 30, 31, 33, 34],
+        classes: &[0, 14, 15, 16, 17, 18, 19, 30, 31, 33, 34],
         own: |f| {
             let printed = bench::trial(field::bytes(f, 0), field::bytes(f, 1), field::bytes(f, 2));
             shown(&printed, field::bytes(f, 3))
@@ -936,10 +1001,32 @@ pub static CALLS: &[Call] = &[
     Call {
         name: "bench.dump",
         kinds: &[Bytes, Bytes, Bytes],
-        classes: &[0, 14, 15, 16, 17, 23],
+        classes: &[0, 14, 15, 16, 17, 18, 19, 23],
         own: |f| {
             shown(
                 &bench::dump(field::bytes(f, 0), field::bytes(f, 1)),
+                field::bytes(f, 2),
+            )
+        },
+    },
+    Call {
+        name: "bench.newsheet",
+        kinds: &[Bytes, Bytes, Bytes],
+        classes: &[0, 14, 15, 16, 17, 18, 19],
+        own: |f| {
+            shown(
+                &bench::newsheet(field::bytes(f, 0), field::bytes(f, 1)),
+                field::bytes(f, 2),
+            )
+        },
+    },
+    Call {
+        name: "bench.oldsheet",
+        kinds: &[Bytes, Bytes, Bytes],
+        classes: &[0, 14, 15, 16, 17, 18, 19],
+        own: |f| {
+            shown(
+                &bench::oldsheet(field::bytes(f, 0), field::bytes(f, 1)),
                 field::bytes(f, 2),
             )
         },

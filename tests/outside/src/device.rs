@@ -111,6 +111,19 @@ pub struct Listed {
     pub name: Range<usize>,
 }
 
+impl Listed {
+    /// What a call answers where it has no line.
+    pub const NONE: Listed = Listed {
+        device: Device::NONE,
+        name: 0..0,
+    };
+}
+
+/// Whether bytes are a name as tables have them.
+pub fn is_name(bytes: &[u8]) -> bool {
+    (1..=16).contains(&bytes.len()) && bytes.iter().all(|c| (0x20..=0x7E).contains(c))
+}
+
 /// A line with its LF taken off: six fields, or seven with the ID's mask last.
 fn table_line(line: &[u8], at: usize) -> Option<Listed> {
     let fields: Vec<&[u8]> = line.split(|&c| c == b'\t').collect();
@@ -120,7 +133,7 @@ fn table_line(line: &[u8], at: usize) -> Option<Listed> {
         [field] => capital_word(field)?,
         _ => return None,
     };
-    if name.is_empty() || name.len() > 16 || !name.iter().all(|c| (0x20..=0x7E).contains(c)) {
+    if !is_name(name) {
         return None;
     }
     let device = Device {

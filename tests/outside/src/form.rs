@@ -51,6 +51,8 @@ fn requests() -> Vec<(Vec<u8>, Vec<u8>)> {
         pair("words.put - 0 171", "words.put -"),
         pair("words.is_words 3fFf3FfF 2", "words.is_words 1"),
         pair("device.is_image 65535 -", "device.is_image 0"),
+        pair("device.is_name 20", "device.is_name 1"),
+        pair("device.is_name -", "device.is_name 0"),
         pair(&format!("judge.checksum {TINY} -"), "judge.checksum 21 0"),
     ];
     // As many bytes and words as a field may have.
@@ -159,8 +161,27 @@ fn malformed() -> Vec<Vec<u8>> {
         "device.fits 10752 16 8 16127 16371 16383 10752 0",
         "device.id_fits 10752 16 8 16127 16371 16383 10752",
         "device.find_device - 65536",
+        "device.is_name",
+        "device.is_name - -",
+        "device.is_name 5449 4E59",
+        "device.is_name TINY",
         "judge.checksum 10752 16 8 16127 16371 16383",
         "judge.checksum 10752 16 8 16127 16371 -",
+        "sheet.read_sheet 10752 16 8 16127 16371 16383 - -",
+        "sheet.read_sheet 10752 16 8 16127 16371 16383 - - 0",
+        "sheet.read_sheet 10752 16 8 16127 16371 16383 - - - -",
+        "sheet.write_new_sheet 10752 16 8 16127 16371 16383 - -",
+        "sheet.write_new_sheet 10752 16 8 16127 16371 16383 54494E59 00 -",
+        "sheet.write_new_sheet 10752 16 8 16127 16371 16383 - - - -",
+        "sheet.to_new - -",
+        "sheet.to_new - - - -",
+        "sheet.to_old - -",
+        "sheet.to_old - - 0",
+        "sheet.new - - -",
+        "bench.newsheet - -",
+        "bench.newsheet - - - -",
+        "bench.oldsheet - -",
+        "bench.oldsheet - - - -",
         "answer",
         "quit",
         "bench.dump - -",
@@ -204,7 +225,11 @@ fn malformed() -> Vec<Vec<u8>> {
     lines.push(format!("ihex.write_hex {TINY} - {text}"));
     lines.push(format!("ihex.next_line {more} 0 0"));
     lines.push(format!("ihex.line_from {more} 0 0"));
-    lines.push(format!("sheet.read_sheet {TINY} {more} -"));
+    lines.push(format!("sheet.read_sheet {TINY} {more} - -"));
+    lines.push(format!("sheet.read_sheet {TINY} - {more} -"));
+    lines.push(format!("sheet.to_new - {more} -"));
+    lines.push(format!("sheet.to_old - - {more}"));
+    lines.push(format!("device.is_name {more}"));
     lines.push(format!("target.run {TINY} - {more} 0 -"));
     lines.push(format!("plan.read_back {TINY} {more}"));
     lines.push(format!("bench.update - - {more} -"));

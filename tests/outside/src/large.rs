@@ -301,37 +301,72 @@ fn read_back_case() -> Case {
     )
 }
 
-/// The sheet of a board that has a word of its own at each address, written and read.
-fn sheet_cases() -> [Case; 2] {
+/// The sheet of a board that has a word of its own at each address, written, read and moved, in both forms. It is
+/// protected: its sum is 0007h, the masked 8007h, and 0123h, the IDs' nibbles.
+fn sheet_cases() -> Vec<Case> {
     let words: Vec<u16> = (0..32_777).map(|i| (i % 0x4000) as u16).collect();
-    let mut text = String::from("2A01\n");
+    let mut rest = String::from("\n");
     for (line, eight) in words[..32_768].chunks(8).enumerate() {
-        text += &format!("{:04X}", 8 * line);
+        rest += &format!("{:04X}", 8 * line);
         for word in eight {
-            text += &format!("\t{word:04X}");
+            rest += &format!("\t{word:04X}");
         }
-        text += "\n";
+        rest += "\n";
     }
-    text += "8000\t0000\t0001\t0002\t0003\t0004\t0005\t0006\t0007\t0008\n";
+    rest += "8000\t0000\t0001\t0002\t0003\t0004\t0005\t0006\t0007\t0008\n";
     let lent: Vec<u16> = words.iter().map(|w| !w).collect();
-    let text = text.into_bytes();
-    [
+    let sheet = |first: &str| format!("{first}{rest}").into_bytes();
+    let (old, new) = (sheet("2A01"), sheet("2A01\tBIG\t012A"));
+    let big = || -> Field { b"BIG".to_vec().into() };
+    let read = |what: &str, text: &[u8], answer: u32| {
+        let left = if answer == 0 { &words } else { &lent };
         case(
-            "a sheet of 184,375 bytes read",
+            what,
             "sheet.read_sheet",
             Some(&BIG),
-            vec![text.clone().into(), lent.into()],
-            vec![number(0), words.clone().into()],
-        ),
+            vec![big(), text.to_vec().into(), lent.clone().into()],
+            vec![number(answer), left.clone().into()],
+        )
+    };
+    let mut all = vec![
+        read("a sheet of 184,375 bytes read", &old, 0),
+        read("a sheet of the new form read", &new, 0),
+        read("another name", &sheet("2A01\tBIGG\t012A"), 18),
+        read("another sum", &sheet("2A01\tBIG\t012B"), 19),
         filled(
             "a sheet written",
             "sheet.write_sheet",
             &BIG,
-            vec![words.into()],
+            vec![words.clone().into()],
             184_375,
-            text,
+            old.clone(),
         ),
-    ]
+        filled(
+            "a sheet of the new form written",
+            "sheet.write_new_sheet",
+            &BIG,
+            vec![big(), words.clone().into()],
+            184_384,
+            new.clone(),
+        ),
+    ];
+    for (name, text) in [("sheet.to_new", &new), ("sheet.to_old", &old)] {
+        for from in [&old, &new] {
+            let lent: Vec<u8> = text.iter().map(|b| !b).collect();
+            all.push(case(
+                "a sheet of the largest device moved",
+                name,
+                None,
+                vec![
+                    [TINY_LINE, BIG_LINE].concat().into(),
+                    from.clone().into(),
+                    lent.into(),
+                ],
+                vec![number(0), text.len().into(), text.clone().into()],
+            ));
+        }
+    }
+    all
 }
 
 /// A step at a counter, with every latch of another word: the counter, the words read and the cells that change. Every cell
@@ -417,7 +452,13 @@ fn judge_cases() -> [Case; 2] {
 }
 
 /// The programs that read table and sheet, and those that read a third file.
-const OF_TWO: [&str; 3] = ["bench.checksum", "bench.readback", "bench.dump"];
+const OF_TWO: [&str; 5] = [
+    "bench.checksum",
+    "bench.readback",
+    "bench.dump",
+    "bench.newsheet",
+    "bench.oldsheet",
+];
 const OF_THREE: [&str; 7] = [
     "bench.verify",
     "bench.update",
@@ -436,8 +477,16 @@ fn program_cases() -> Vec<Case> {
     let zero = [TINY_LINE, b"ZERO\t0000\t32768\t32\t3EFF\t3FF3\n"].concat();
     let above = b"MORE\t2A01\t8200\t8\t3EFF\t3FF3\n".to_vec();
     let rest = tiny_sheet().replacen("2A00", "2A01", 1);
-    let files: [(&str, &[u8], &[u8], &str); 9] = [
+    let files: [(&str, &[u8], &[u8], &str); 12] = [
         ("line 1 alone", &both, b"2A01\n", TOO_LARGE),
+        ("the new form", &both, b"2A01\tBIG\t0000\n", TOO_LARGE),
+        ("another name", &both, b"2A01\tBIX\t0000\nx", TOO_LARGE),
+        (
+            "14 first, sum",
+            &both,
+            b"2A01\tBIG\t000\n",
+            "refused\t14\t0\t0\n",
+        ),
         ("any rest", &both, b"2A01\nx", TOO_LARGE),
         ("too few words", &both, rest.as_bytes(), TOO_LARGE),
         ("8,200 words", &above, b"2A01\n", TOO_LARGE),
@@ -496,8 +545,10 @@ fn board_cases() -> [Case; 2] {
         [TINY_LINE, BIG_LINE].concat().into(),
         b"2A01\n0000".to_vec().into(),
     ];
+    // 25 bytes of TINY's line stand before the name.
     let mut record = vec![number(17)];
     record.extend(device_fields(&BIG));
+    record.extend([number(25), number(3)]);
     let mut opened = files.clone();
     opened.push(number(0x5A5A));
     let mut board = record.clone();

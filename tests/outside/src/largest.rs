@@ -32,6 +32,9 @@ const OPENED: Device = Device {
     ..LARGEST
 };
 
+/// A name as long as can be.
+const NAME: &[u8] = b"0123456789ABCDEF";
+
 fn bytes(count: usize) -> Vec<u8> {
     (0..count).map(|i| (i % 251) as u8).collect()
 }
@@ -113,6 +116,11 @@ fn of_libraries() -> Vec<Request> {
         longest.extend([INCREMENT, 0, 0]);
     }
     let (out, room) = (bytes(BYTES_MAX), entries(WORDS_MAX));
+    let table = longest_table(d);
+    let moved = |name: &str, text: Vec<u8>| {
+        let fields = vec![table.clone().into(), text.into(), out.clone().into()];
+        Request::new(name, fields)
+    };
     let step = |name, code: u8| {
         let latches: Vec<u16> = vec![0x1234; LATCHES];
         let mut fields: Vec<Field> = vec![0x7FFFu16.into(), latches.into(), code.into()];
@@ -129,13 +137,39 @@ fn of_libraries() -> Vec<Request> {
         asked(
             "sheet.read_sheet",
             d,
-            vec![sheet::text(d, &wanted).into(), entries(d.entries()).into()],
+            vec![
+                NAME.to_vec().into(),
+                sheet::text(d, &wanted).into(),
+                entries(d.entries()).into(),
+            ],
+        ),
+        asked(
+            "sheet.read_sheet",
+            d,
+            vec![
+                NAME.to_vec().into(),
+                sheet::new_text(d, NAME, &wanted).into(),
+                entries(d.entries()).into(),
+            ],
         ),
         asked(
             "sheet.write_sheet",
             d,
             vec![wanted.clone().into(), out.clone().into()],
         ),
+        asked(
+            "sheet.write_new_sheet",
+            d,
+            vec![
+                NAME.to_vec().into(),
+                wanted.clone().into(),
+                out.clone().into(),
+            ],
+        ),
+        moved("sheet.to_new", sheet::text(d, &wanted)),
+        moved("sheet.to_new", sheet::new_text(d, NAME, &wanted)),
+        moved("sheet.to_old", sheet::text(d, &wanted)),
+        moved("sheet.to_old", sheet::new_text(d, NAME, &wanted)),
         asked(
             "ihex.read_hex",
             d,
@@ -200,13 +234,15 @@ fn of_libraries() -> Vec<Request> {
     ]
 }
 
-/// A table of as many lines as there can be, each as long as it can be, the last one the board's.
-fn longest_table() -> Vec<u8> {
+/// A table of as many lines as there can be, each as long as it can be, the last one the device's.
+fn longest_table(d: &Device) -> Vec<u8> {
+    let name = String::from_utf8_lossy(NAME);
+    let line = |id: u16, words: u16, row: u16| {
+        format!("{name}\t{id:04X}\t{words}\t{row}\t3EFF\t3FF3\t3FFF\n")
+    };
     let others = 1..LINES_MAX as u16;
-    let mut text: String = others
-        .map(|id| format!("0123456789ABCDEF\t{id:04X}\t{PROGRAM_MAX}\t32\t3EFF\t3FF3\t3FFF\n"))
-        .collect();
-    text += "0123456789ABCDEF\t2A01\t8192\t8\t3EFF\t3FF3\t3FFF\n";
+    let mut text: String = others.map(|id| line(id, PROGRAM_MAX, 32)).collect();
+    text += &line(d.id, d.words, d.row);
     text.into_bytes()
 }
 
@@ -215,13 +251,17 @@ fn of_programs() -> Vec<Request> {
     let d = &OPENED;
     let (board, image) = all_different(d);
     let wanted = wanted_over(d, &image, &board);
-    let (before, after) = (sheet::text(d, &board), sheet::text(d, &wanted));
+    // The new form, which is longer.
+    let (before, after) = (
+        sheet::new_text(d, NAME, &board),
+        sheet::new_text(d, NAME, &wanted),
+    );
     let file = padded(hex::text(d, &image), PROGRAM_TEXT_MAX);
     let mut steps = vec![RESET, 0, 0];
     steps.extend([READ, 0, 0].repeat(TRIAL_LINES - 1));
     let stream = stream_text(&steps);
     let words = answer_text(&board);
-    let table = longest_table();
+    let table = longest_table(d);
     let program = |name: &str, third: Option<&Vec<u8>>| {
         let mut fields: Vec<Field> = vec![table.clone().into(), before.clone().into()];
         fields.extend(third.map(|file| Field::from(file.clone())));
@@ -242,6 +282,8 @@ fn of_programs() -> Vec<Request> {
             ],
         ),
         program("bench.checksum", None),
+        program("bench.newsheet", None),
+        program("bench.oldsheet", None),
         program("bench.verify", Some(&after)),
         program("bench.readback", None),
         program("bench.update", Some(&file)),

@@ -16,6 +16,7 @@ mod large;
 mod largest;
 mod masked;
 mod model;
+mod moved;
 mod print;
 mod refusal;
 mod rng;
@@ -49,8 +50,9 @@ outside --mock                        answer requests on standard input with our
 /// Inputs aimed at each number of each call: above the hundred that must be seen, since an aim can miss.
 const AIMED: usize = 125;
 /// Inputs aimed at some numbers. 1 of the HEX reader is long and cannot miss; of those that can stand at many columns of a line
-/// there are enough that most columns are met. Of tables there are enough that lines clash in every way, or nearly do.
-const AIMED_AT: [(&str, u32, usize); 7] = [
+/// there are enough that most columns are met. Of tables there are enough that lines clash in every way, or nearly do, and
+/// of sheets that line 1 is malformed in every way.
+const AIMED_AT: [(&str, u32, usize); 9] = [
     (HEX_READER, 1, 100),
     (HEX_READER, 2, 2_500),
     (HEX_READER, 7, 1_000),
@@ -58,6 +60,8 @@ const AIMED_AT: [(&str, u32, usize); 7] = [
     (HEX_READER, 9, 1_000),
     ("device.judge_table", 0, 500),
     ("device.judge_table", 15, 1_000),
+    ("sheet.read_id", 0, 500),
+    ("sheet.read_id", 14, 1_000),
 ];
 /// Inputs for large devices, of each number: few, since they are long.
 const LARGE: usize = 3;

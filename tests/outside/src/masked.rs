@@ -8,12 +8,12 @@ use crate::words::NOT_GIVEN;
 use crate::worked::{bench_case, case, number, tiny_sheet, Case, END, TINY, TINY_LINE};
 
 /// The ID and its mask are the maker's, the rest is TINY's.
-const MCP: Device = Device {
+pub const MCP: Device = Device {
     id: 0x2F82,
     idmask: 0x3FE0,
     ..TINY
 };
-const MCP_LINE: &[u8] = b"MCP19111\t2F82\t16\t8\t3EFF\t3FF3\t3FE0\n";
+pub const MCP_LINE: &[u8] = b"MCP19111\t2F82\t16\t8\t3EFF\t3FF3\t3FE0\n";
 
 /// TINY with another ID and mask.
 fn tiny(id: u16, idmask: u16) -> Device {
@@ -142,13 +142,13 @@ fn table_cases() -> Vec<Case> {
 }
 
 /// A blank sheet with this on line 1 and at 8006h.
-fn sheet(first: &str, word: &str) -> Vec<u8> {
+pub fn sheet(first: &str, word: &str) -> Vec<u8> {
     let text = tiny_sheet().replace("\t2A00\t", &format!("\t{word}\t"));
     format!("{first}{}", &text[4..]).into_bytes()
 }
 
 /// The words of such a sheet.
-fn reading(word: u16) -> Vec<u16> {
+pub fn reading(word: u16) -> Vec<u16> {
     let mut words = vec![0x3FFF; TINY.entries()];
     (words[21], words[22]) = (0x2000, word);
     words
@@ -166,7 +166,11 @@ fn sheet_cases() -> Vec<Case> {
             &format!("a sheet with {first} on line 1"),
             "sheet.read_sheet",
             Some(d),
-            vec![sheet(first, "2F85").into(), lent.clone().into()],
+            vec![
+                b"MCP19111".to_vec().into(),
+                sheet(first, "2F85").into(),
+                lent.clone().into(),
+            ],
             vec![number(answer), left.into()],
         )
     };
@@ -225,16 +229,17 @@ fn stream_cases() -> Vec<Case> {
 /// The records beside the numbers, and the programs.
 fn program_cases() -> Vec<Case> {
     let table = [TINY_LINE, MCP_LINE].concat();
-    let opened = |first: &str, answer: u32, d: &Device| {
+    let opened = |first: &str, answer: u32, d: &Device, place: u32, length: u32| {
         let mut expected = vec![number(answer)];
         expected.extend(device_fields(d));
+        expected.extend([number(place), number(length)]);
         let files = vec![table.clone().into(), sheet(first, "2F85").into()];
         case(first, "board.open_record", None, files, expected)
     };
     let mut all = vec![
-        opened("2F84", 0, &MCP),
-        opened("2FA0", 16, &Device::NONE),
-        opened("6F82", 14, &Device::NONE),
+        opened("2F84", 0, &MCP, 25, 8),
+        opened("2FA0", 16, &Device::NONE, 0, 0),
+        opened("6F82", 14, &Device::NONE, 0, 0),
     ];
     let board = sheet("2F84", "2F85");
     let text = String::from_utf8_lossy(&board).to_string();

@@ -14,7 +14,8 @@ pub const SEEN_AT_LEAST: u64 = 100;
 const COLUMNS_AT_LEAST: [(u32, usize); 4] = [(2, 300), (7, 80), (8, 80), (9, 80)];
 /// The field of the HEX reader's answer that has the column.
 const COLUMN: usize = 2;
-/// How often each call that takes a record must be asked about a sound one of more words than the programs take.
+/// How often each call that takes a record, or finds one to move a sheet by, must be asked about a sound one of more
+/// words than the programs take.
 const LARGE_AT_LEAST: u64 = 5;
 /// The longest part of a field that a message shows.
 const CUT: usize = 72;
@@ -110,7 +111,7 @@ impl Tally {
     pub fn report(&mut self, asked: &dyn Fn(&str) -> bool) {
         println!("\nanswers seen, call by number ({})", crate::calls::CLASSES);
         for (i, call) in CALLS.iter().enumerate().filter(|(_, c)| asked(c.name)) {
-            let mut line = format!("{:<20}", call.name);
+            let mut line = format!("{:<21}", call.name);
             for (&(_, class), count) in self.seen.range((i, 0)..=(i, u32::MAX)) {
                 line.push_str(&format!(" {class}:{count}"));
             }
@@ -140,7 +141,7 @@ impl Tally {
         if !self.failed_of.is_empty() {
             println!("\nanswers that differ, by call");
             for (name, count) in &self.failed_of {
-                println!("{name:<20} {count}");
+                println!("{name:<21} {count}");
             }
         }
     }
@@ -166,7 +167,7 @@ impl Tally {
         let counts: Vec<(&str, u64)> = CALLS
             .iter()
             .enumerate()
-            .filter(|(_, c)| c.takes_record() && asked(c.name))
+            .filter(|(_, c)| c.about_record() && asked(c.name))
             .map(|(i, c)| (c.name, self.large.get(&i).copied().unwrap_or(0)))
             .collect();
         let line: String = counts.iter().map(|(n, k)| format!(" {n}:{k}")).collect();

@@ -1,16 +1,17 @@
 //! The paper's worked cases and the maker's checksums, written out by hand; round trips of our own implementation.
 
 use crate::ask::Peer;
-use crate::board::OPENED_MAX;
+use crate::board::{moved_to, OPENED_MAX};
 use crate::calls::{device_fields, Request};
 use crate::device::{is_image, Device};
 use crate::field::{line, Field};
-use crate::gen::{device_of_size, fitting, image_for, large_device, reading_for, with_id};
+use crate::gen::{device_of_size, fitting, image_for, large_device, name, reading_for, with_id};
 use crate::model::{self, Run};
 use crate::rng::Rng;
+use crate::sheet::Form;
 use crate::tally::{cut, difference, Tally};
 use crate::words::{NOT_GIVEN, WORD_MAX};
-use crate::{bench, device, hex, judge, large, masked, sheet, streams};
+use crate::{bench, device, hex, judge, large, masked, moved, sheet, streams};
 
 pub const TINY: Device = Device {
     id: 0x2A00,
@@ -498,6 +499,11 @@ fn spare_cases() -> Vec<Case> {
     ]
 }
 
+/// The copy of TINY's blank board as HEX text.
+pub const BLANK_COPY: &str = ":10000000FF3FFF3FFF3FFF3FFF3FFF3FFF3FFF3F00\n\
+    :10001000FF3FFF3FFF3FFF3FFF3FFF3FFF3FFF3FF0\n\
+    :020000040001F9\n:08000000FF3FFF3FFF3FFF3F00\n:02000E00FF3FB2\n:02001000FF3FB0\n:00000001FF\n";
+
 /// The files of a program, and what it prints.
 pub fn bench_case(what: &str, name: &str, files: &[&[u8]], text: &str) -> Case {
     let lent: Vec<u8> = (0..text.len() + 7).map(|i| i as u8 ^ 0xA5).collect();
@@ -542,9 +548,6 @@ fn bench_cases() -> Vec<Case> {
     let written = String::from_utf8_lossy(protected).to_string();
     let came_back = "3FFF\n".repeat(21) + "2000\n2A00\n3FFF\n3FFF\n";
     let past_configuration = format!("00\t7FFE\n{}09\t0000\n", "06\t0000\n".repeat(9));
-    let dump = ":10000000FF3FFF3FFF3FFF3FFF3FFF3FFF3FFF3F00\n\
-        :10001000FF3FFF3FFF3FFF3FFF3FFF3FFF3FFF3FF0\n\
-        :020000040001F9\n:08000000FF3FFF3FFF3FFF3F00\n:02000E00FF3FB2\n:02001000FF3FB0\n:00000001FF\n";
     vec![
         bench_case(
             "the whole listing",
@@ -684,7 +687,12 @@ fn bench_cases() -> Vec<Case> {
             &[TINY_LINE, board, b"16\t0000\n02\t7efe\n"],
             "refused\t34\t2\t1\n",
         ),
-        bench_case("a whole copy", "bench.dump", &[TINY_LINE, board], dump),
+        bench_case(
+            "a whole copy",
+            "bench.dump",
+            &[TINY_LINE, board],
+            BLANK_COPY,
+        ),
         bench_case(
             "a copy of a protected board",
             "bench.dump",
@@ -715,6 +723,7 @@ fn cases() -> Vec<Case> {
     all.extend(bench_cases());
     all.extend(large::cases());
     all.extend(masked::cases());
+    all.extend(moved::cases());
     let table: Vec<u8> = b"PIC16F1459\t3023\t8192\t32\t3EFF\t3FF3\n".to_vec();
     let mut found = vec![number(0)];
     found.extend(device_fields(&F1459));
@@ -801,15 +810,59 @@ pub fn round_trips(rng: &mut Rng, tally: &mut Tally) {
         fresh_trip(&d, &image, rng, tally);
         steps_trip(&d, &board, &image, rng, tally);
         rehearsal_trip(&d, &board, &image, rng, tally);
+        forms_trip(&d, rng, tally);
     }
 }
 
 /// The device as a line of a table.
-fn table_line(d: &Device) -> String {
-    format!(
-        "a b\t{:04X}\t{}\t{}\t{:04X}\t{:04X}\t{:04X}\n",
+fn table_line(name: &[u8], d: &Device) -> Vec<u8> {
+    let rest = format!(
+        "\t{:04X}\t{}\t{}\t{:04X}\t{:04X}\t{:04X}\n",
         d.id, d.words, d.row, d.mask1, d.mask2, d.idmask
-    )
+    );
+    [name, rest.as_bytes()].concat()
+}
+
+/// Old to new to old gives the same bytes, and new to old to new too; both forms have the same words and the same ID.
+fn forms_trip(d: &Device, rng: &mut Rng, tally: &mut Tally) {
+    let board = reading_for(d, rng.chance(40), rng);
+    let (called, id) = (name(rng), fitting(d, rng));
+    let table = table_line(&called, d);
+    let old = with_id(&sheet::text(d, &board), id);
+    let new = with_id(&sheet::new_text(d, &called, &board), id);
+    let moved = |form, text: &[u8]| moved_to(form, &table, text).unwrap_or_default();
+    let there = moved(Form::New, &old);
+    let back = moved(Form::Old, &new);
+    tally.check(there == new && back == old, || {
+        format!("a sheet moved: {d:?}")
+    });
+    let again = moved(Form::Old, &there) == old && moved(Form::New, &back) == new;
+    tally.check(again, || format!("a sheet moved there and back: {d:?}"));
+    let still = moved(Form::Old, &old) == old && moved(Form::New, &new) == new;
+    tally.check(still, || format!("a sheet moved to its own form: {d:?}"));
+    tally.check(new.len() == old.len() + called.len() + 6, || {
+        format!("the lengths of both forms: {d:?}")
+    });
+    for text in [&old, &new] {
+        let read = sheet::judged(d, &called, text);
+        tally.check(read.as_ref() == Ok(&board), || {
+            format!("a sheet of either form read: {d:?}")
+        });
+        let printed = [
+            bench::newsheet(&table, text),
+            bench::oldsheet(&table, text),
+            bench::checksum(&table, text),
+        ];
+        let sum = format!("{:04X}\n", sheet::sum_of(d, &board)).into_bytes();
+        let good = if d.words > OPENED_MAX {
+            printed.iter().all(|p| p.number == 17)
+        } else {
+            printed.map(|p| p.text) == [new.clone(), old.clone(), sum]
+        };
+        tally.check(good, || {
+            format!("a sheet of either form in the programs: {d:?}")
+        });
+    }
 }
 
 fn texts_trip(d: &Device, board: &[u16], image: &[u16], rng: &mut Rng, tally: &mut Tally) {
@@ -836,9 +889,11 @@ fn texts_trip(d: &Device, board: &[u16], image: &[u16], rng: &mut Rng, tally: &m
     tally.check(size == 5 + 45 * d.p() / 8 + 50, || {
         format!("a sheet's length: {size}")
     });
-    let text = table_line(d);
-    let found = device::find(text.as_bytes(), word).map(|l| l.device);
-    tally.check(found == Ok(*d), || format!("a table's line: {text:?}"));
+    let text = table_line(b"a b", d);
+    let found = device::find(&text, word).map(|l| l.device);
+    tally.check(found == Ok(*d), || {
+        format!("a table's line: {:?}", cut(&text, 0))
+    });
     let same = judge::verify(d, board, board);
     tally.check(same == (0, 0, 0), || {
         format!("a reading verified against itself: {same:?}")
@@ -922,8 +977,14 @@ fn fresh_trip(d: &Device, image: &[u16], rng: &mut Rng, tally: &mut Tally) {
 
 /// A printed stream, played, leaves the sheet that was wanted, line 1 as it was; a board that is too large has none.
 fn rehearsal_trip(d: &Device, board: &[u16], image: &[u16], rng: &mut Rng, tally: &mut Tally) {
-    let table = table_line(d).into_bytes();
-    let board = with_id(&sheet::text(d, board), fitting(d, rng));
+    let table = table_line(b"a b", d);
+    let old = with_id(&sheet::text(d, board), fitting(d, rng));
+    // What is printed is of the old form, whatever the board's sheet is.
+    let board = if rng.chance(50) {
+        moved_to(Form::New, &table, &old).unwrap_or_default()
+    } else {
+        old.clone()
+    };
     let file = hex::text(d, image);
     if d.words > OPENED_MAX {
         let number = bench::update(&table, &board, &file).number;
@@ -933,14 +994,14 @@ fn rehearsal_trip(d: &Device, board: &[u16], image: &[u16], rng: &mut Rng, tally
     let stream = bench::update(&table, &board, &file).text;
     let left = bench::trial(&table, &board, &stream).text;
     let wanted = bench::wanted(&table, &board, &file);
-    let same = left == wanted.text && left[..5] == board[..5];
+    let same = left == wanted.text && left[..5] == old[..5];
     tally.check(wanted.number == 0 && same, || {
         format!("an update, rehearsed: {d:?}")
     });
     let stream = bench::fresh(&table, &board, &file).text;
     let left = bench::trial(&table, &board, &stream).text;
     let wanted = bench::wanted_fresh(&table, &board, &file);
-    let same = left == wanted.text && left[..5] == board[..5];
+    let same = left == wanted.text && left[..5] == old[..5];
     tally.check(wanted.number == 0 && same, || {
         format!("a fresh programming, rehearsed: {d:?}")
     });

@@ -1,20 +1,21 @@
 //! Inputs for what the programs print, and for the boards that they open.
 
 use super::boards::{
-    also, bad_first_line, bad_sheet, bad_table, choosy, enlarged, fitting, image_for, no_word,
-    other_bit, other_spare, other_word, program_device, reading_for, table_with, table_without,
-    with_id,
+    also, bad_first_line, bad_sheet, bad_table, choosy, enlarged, fitting, headed_by, image_for,
+    line_2, no_word, other_bit, other_spare, other_word, program_device, reading_for, table_with,
+    table_without, with_id, Head,
 };
 use super::plans::{bad_step, put_in, sound_stream, want_a_bit};
 use super::{hexes, lent, number, room};
 use crate::bench as own;
+use crate::board::moved_to;
 use crate::calls::Request;
 use crate::device::{Device, CP};
 use crate::field::{Field, BYTES_MAX};
 use crate::hex::PROGRAM_TEXT_MAX;
 use crate::model::{INCREMENT, READ, RESET};
 use crate::rng::Rng;
-use crate::sheet;
+use crate::sheet::{self, Form};
 
 /// A number of the program that comes after 17, or 0.
 fn after_17(name: &str, rng: &mut Rng) -> u32 {
@@ -44,19 +45,19 @@ pub fn bench(name: &str, aim: u32, rng: &mut Rng) -> Vec<Field> {
         _ => rng.chance(30),
     };
     let mut reading = reading_for(&d, protected, rng);
-    // 14 is of the wanted sheet alone, of the board's alone, or of both.
-    let bad_wanted = name == "verify" && aim == 14 && rng.chance(60);
+    // 14, 18 and 19 are of the wanted sheet alone, of the board's alone, or of both.
+    let of_wanted = name == "verify" && matches!(aim, 14 | 18 | 19) && rng.chance(50);
+    let wanted = wanted_words(&d, &reading, aim == 40, rng);
     // The third file is made with the reading still sound, and may change it to suit.
-    let third = match name {
+    let mut third = match name {
         _ if makes_stream(name) => Some(hex_file(&d, &mut reading, aim, rng)),
-        "verify" => Some(wanted_file(&d, &reading, aim == 40, bad_wanted, rng)),
         "trial" => Some(stream_file(&d, aim, rng)),
         "gather" => Some(words_file(&d, &reading, aim, rng)),
         _ => None,
     };
     if aim == 22
         || (aim != 0 && aim < 12 && rng.chance(20))
-        || (matches!(name, "update" | "wanted") && also(aim, &[14, 15, 16], rng))
+        || (matches!(name, "update" | "wanted") && also(aim, &[14, 15, 16, 18, 19], rng))
         || (!makes_stream(name) && rng.chance(20))
     {
         let word = other_word(&d, rng);
@@ -69,14 +70,25 @@ pub fn bench(name: &str, aim: u32, rng: &mut Rng) -> Vec<Field> {
         too_large(&d, &text, aim == 14, rng)
     } else {
         let alone = matches!(name, "readback" | "gather");
-        let aim = if bad_wanted && rng.chance(70) { 0 } else { aim };
+        let aim = if of_wanted { 0 } else { aim };
         first_files(&d, id, &text, aim, alone, rng)
     };
+    if name == "verify" {
+        // Whatever the wanted sheet has, the board's comes first.
+        let aim = match aim {
+            14..=19 if !of_wanted && rng.chance(60) => rng.pick(&[14, 18, 19]),
+            _ if of_wanted => aim,
+            _ => 0,
+        };
+        third = Some(wanted_file(&d, &table, &wanted, aim, rng));
+    }
     let mut fields: Vec<Field> = vec![table.clone().into(), board.clone().into()];
     let file = third.clone().unwrap_or_default();
     let printed = match name {
         "checksum" => own::checksum(&table, &board),
         "verify" => own::verify(&table, &board, &file),
+        "newsheet" => own::newsheet(&table, &board),
+        "oldsheet" => own::oldsheet(&table, &board),
         "readback" => own::readback(&table, &board),
         "update" => own::update(&table, &board, &file),
         "fresh" => own::fresh(&table, &board, &file),
@@ -119,22 +131,42 @@ pub fn board(name: &str, aim: u32, rng: &mut Rng) -> Vec<Field> {
     fields
 }
 
+/// A table and a sheet of the device to be moved, and room for it.
+pub fn moves(form: Form, aim: u32, d: Device, rng: &mut Rng) -> Vec<Field> {
+    let mut reading = reading_for(&d, rng.chance(30), rng);
+    if rng.chance(20) {
+        reading[d.p() + 6] = rng.word();
+    }
+    let id = fitting(&d, rng);
+    let text = with_id(&sheet::text(&d, &reading), id);
+    let (table, board) = first_files(&d, id, &text, aim, false, rng);
+    let short = aim == 26 || also(aim, &[14, 15, 16, 18, 19], rng);
+    let needed = moved_to(form, &table, &board).map_or(text.len(), |new| new.len());
+    let length = room(needed, short, rng);
+    vec![table.into(), board.into(), lent(length, rng).into()]
+}
+
 /// A table that has the board as too large a device, and its sheet, or what begins like one.
 fn too_large(d: &Device, text: &[u8], bad_rest: bool, rng: &mut Rng) -> (Vec<u8>, Vec<u8>) {
     let large = enlarged(d, rng);
-    let first = text[..5].to_vec();
+    let table = table_with(&large, rng);
+    let text = headed_by(&table, d, text, Head::Any, rng);
+    let first = text[..line_2(&text)].to_vec();
     let board = match rng.below(40) {
         // A sound sheet of so large a board: seldom, since it is long.
-        0 => sheet::text(&large, &reading_for(&large, rng.chance(30), rng)),
+        0 => {
+            let text = sheet::text(&large, &reading_for(&large, rng.chance(30), rng));
+            headed_by(&table, &large, &text, Head::Any, rng)
+        }
         1..=8 => first,
         9..=12 => [first, lent(40, rng)].concat(),
-        _ if bad_rest => bad_sheet(d, text, rng),
-        _ => text.to_vec(),
+        _ if bad_rest => bad_sheet(d, &text, rng),
+        _ => text,
     };
-    (table_with(&large, rng), board)
+    (table, board)
 }
 
-/// Table and sheet, with 14, 15 or 16 in them where that is aimed at; `id` is what the sheet has on line 1.
+/// Table and sheet, with 14, 15, 16, 18 or 19 in them where that is aimed at; `id` is what the sheet has on line 1.
 fn first_files(
     d: &Device,
     id: u16,
@@ -143,44 +175,40 @@ fn first_files(
     line_alone: bool,
     rng: &mut Rng,
 ) -> (Vec<u8>, Vec<u8>) {
-    let known = table_with(d, rng);
     // What comes before 17 comes for a large board as well.
     let any_size = if rng.chance(40) { enlarged(d, rng) } else { *d };
-    match aim {
-        15 => {
-            let board = if rng.chance(30) {
-                bad_first_line(text, rng)
-            } else {
-                text.to_vec()
-            };
-            (bad_table(&any_size, rng), board)
-        }
-        16 => {
-            let board = if rng.chance(40) {
-                bad_sheet(d, text, rng)
-            } else {
-                text.to_vec()
-            };
-            (table_without(&any_size, id, rng), board)
-        }
-        14 if line_alone || rng.chance(40) => {
-            let table = if rng.chance(30) {
-                table_without(&any_size, id, rng)
-            } else {
-                table_with(&any_size, rng)
-            };
-            (table, bad_first_line(text, rng))
-        }
-        14 => (known, bad_sheet(d, text, rng)),
+    // In a sheet of which line 1 alone is read the first line may be malformed, and no more.
+    let bad_line = aim == 14 && (line_alone || rng.chance(40));
+    let table = match aim {
+        15 => bad_table(&any_size, rng),
+        16 => table_without(&any_size, id, rng),
+        14 if bad_line && rng.chance(30) => table_without(&any_size, id, rng),
+        14 if bad_line => table_with(&any_size, rng),
+        _ => table_with(d, rng),
+    };
+    // Nor are name and sum anything to a program that reads the ID alone.
+    let head = if line_alone {
+        Head::Any
+    } else {
+        Head::for_aim(aim)
+    };
+    let text = headed_by(&table, d, text, head, rng);
+    let board = match aim {
+        15 if rng.chance(30) => bad_first_line(&text, rng),
+        16 if rng.chance(40) => bad_sheet(d, &text, rng),
+        14 if bad_line => bad_first_line(&text, rng),
+        14 => bad_sheet(d, &text, rng),
+        15 | 16 => text,
         // What follows line 1 is nothing to a program that reads line 1 alone.
-        _ if line_alone && rng.chance(40) => (known, bad_sheet(d, text, rng)),
-        _ => (known, text.to_vec()),
-    }
+        _ if line_alone && rng.chance(40) => bad_sheet(d, &text, rng),
+        _ => text,
+    };
+    (table, board)
 }
 
 fn hex_file(d: &Device, reading: &mut [u16], aim: u32, rng: &mut Rng) -> Vec<u8> {
     let mut image = image_for(d, reading, rng);
-    if aim == 24 || also(aim, &[22, 23, 14, 16], rng) {
+    if aim == 24 || also(aim, &[22, 23, 14, 16, 18, 19], rng) {
         want_a_bit(d, &mut image, reading, rng);
         // So that nothing but the bit refuses.
         if aim == 24 {
@@ -189,13 +217,14 @@ fn hex_file(d: &Device, reading: &mut [u16], aim: u32, rng: &mut Rng) -> Vec<u8>
     }
     let lines = match aim {
         1..=11 => aim,
-        14..=16 if rng.chance(30) => rng.pick(&[2, 3, 10]),
+        14..=19 if rng.chance(30) => rng.pick(&[2, 3, 10]),
         _ => 0,
     };
     hexes::text(d, &image, lines, PROGRAM_TEXT_MAX, BYTES_MAX, rng)
 }
 
-fn wanted_file(d: &Device, reading: &[u16], differs: bool, bad: bool, rng: &mut Rng) -> Vec<u8> {
+/// What is wanted of a board: nothing else that is judged, or what differs in a word or more.
+fn wanted_words(d: &Device, reading: &[u16], differs: bool, rng: &mut Rng) -> Vec<u16> {
     let p = d.p();
     let mut wanted = reading.to_vec();
     if d.protected(reading) && rng.chance(50) {
@@ -219,16 +248,21 @@ fn wanted_file(d: &Device, reading: &[u16], differs: bool, bad: bool, rng: &mut 
     if rng.chance(60) {
         other_spare(d, &mut wanted, rng);
     }
+    wanted
+}
+
+/// The wanted sheet, by the board's table, with 14, 18 or 19 in it where that is aimed at.
+fn wanted_file(d: &Device, table: &[u8], wanted: &[u16], aim: u32, rng: &mut Rng) -> Vec<u8> {
     // Its line 1 need only fit, too.
-    let text = with_id(&sheet::text(d, &wanted), fitting(d, rng));
-    if bad {
-        match rng.below(4) {
-            0 => bad_first_line(&text, rng),
-            1 => with_id(&text, other_word(d, rng).unwrap_or(no_word(d, rng))),
-            _ => bad_sheet(d, &text, rng),
-        }
-    } else {
-        text
+    let text = with_id(&sheet::text(d, wanted), fitting(d, rng));
+    let text = headed_by(table, d, &text, Head::for_aim(aim), rng);
+    if aim != 14 {
+        return text;
+    }
+    match rng.below(4) {
+        0 => bad_first_line(&text, rng),
+        1 => with_id(&text, other_word(d, rng).unwrap_or(no_word(d, rng))),
+        _ => bad_sheet(d, &text, rng),
     }
 }
 
@@ -318,7 +352,7 @@ fn stream_file(d: &Device, aim: u32, rng: &mut Rng) -> Vec<u8> {
         own::TRIAL_LINES - 40
     };
     stream.truncate(3 * most);
-    if matches!(aim, 30 | 31 | 33) || also(aim, &[14, 15, 16, 34], rng) {
+    if matches!(aim, 30 | 31 | 33) || also(aim, &[14, 15, 16, 18, 19, 34], rng) {
         let number = if (30..34).contains(&aim) {
             aim
         } else {
@@ -329,7 +363,7 @@ fn stream_file(d: &Device, aim: u32, rng: &mut Rng) -> Vec<u8> {
     }
     let text = own::stream_text(&stream);
     let mut lines: Vec<Vec<u8>> = text.chunks(8).map(|l| l[..7].to_vec()).collect();
-    if aim == 34 || also(aim, &[14, 15, 16], rng) {
+    if aim == 34 || also(aim, &[14, 15, 16, 18, 19], rng) {
         let at = rng.below(lines.len() + 1);
         let bad = bad_line(b"06\t0000", rng);
         lines.insert(at, bad);

@@ -3,7 +3,7 @@
 use super::{lent, lent_words, number, room};
 use crate::board::OPENED_MAX;
 use crate::calls::device_fields;
-use crate::device::{Device, CP, LINES_MAX, PROGRAM_MAX};
+use crate::device::{is_name, lines, Device, CP, LINES_MAX, PROGRAM_MAX};
 use crate::field::Field;
 use crate::rng::Rng;
 use crate::sheet as own;
@@ -288,9 +288,158 @@ pub fn spoil_words(list: &mut Vec<u16>, rng: &mut Rng) {
     }
 }
 
-fn name(rng: &mut Rng) -> Vec<u8> {
-    let length = rng.between(1, 16);
-    (0..length).map(|_| rng.between(0x20, 0x7E) as u8).collect()
+/// A name of any length, at times the longest or the shortest, of blanks alone, or one that looks like another field of a
+/// sheet.
+pub fn name(rng: &mut Rng) -> Vec<u8> {
+    let any = rng.between(1, 16);
+    let length = rng.pick(&[1, 16, any, any]);
+    match rng.below(12) {
+        0 => vec![b' '; length],
+        1 => format!("{:04X}", rng.u16()).into_bytes(),
+        _ => (0..length).map(|_| rng.between(0x20, 0x7E) as u8).collect(),
+    }
+}
+
+/// Bytes that are no name: none, too many, or with one that no name has.
+pub fn no_name(rng: &mut Rng) -> Vec<u8> {
+    let mut bytes = name(rng);
+    let at = rng.below(bytes.len());
+    match rng.below(4) {
+        0 => bytes.clear(),
+        1 => bytes.resize(rng.pick(&[17, 17, 18, 32, 33, 272]), b'x'),
+        _ => bytes[at] = rng.pick(b"\x00\t\n\r\x1F\x7F\x80\xA0\xFF"),
+    }
+    bytes
+}
+
+/// A name that is not this one: it differs in a character, in its length, or is another's.
+fn other_name(name: &[u8], others: &[Vec<u8>], rng: &mut Rng) -> Vec<u8> {
+    loop {
+        let mut other = name.to_vec();
+        let at = rng.below(name.len());
+        match rng.below(8) {
+            0 => other[at] ^= 1 << rng.below(6),
+            1 => other[at] ^= 0x20,
+            2 => {
+                other.pop();
+            }
+            3 => other.push(rng.pick(b" 0x~")),
+            4 => other.insert(0, rng.pick(b" 0T")),
+            5 if !others.is_empty() => other = others[rng.below(others.len())].clone(),
+            6 => other.resize(16, b' '),
+            _ => other = self::name(rng),
+        }
+        if other != name && is_name(&other) {
+            return other;
+        }
+    }
+}
+
+/// A sum that is not the reading's: one beside it, with its bytes turned around, or made by a rule that is nearly the
+/// right one.
+fn other_sum(d: &Device, reading: &[u16], rng: &mut Rng) -> u16 {
+    let sum = own::sum_of(d, reading);
+    let p = d.p();
+    let add = |words: &[u16]| words.iter().fold(0u16, |all, &w| all.wrapping_add(w));
+    loop {
+        let other = match rng.below(12) {
+            0 => sum.wrapping_add(1),
+            1 => sum.wrapping_sub(1),
+            2 => sum ^ (1 << rng.below(16)),
+            3 => sum.swap_bytes(),
+            4 => sum & WORD_MAX,
+            // Spare bits counted too.
+            5 => add(&reading[..p]).wrapping_add(add(&reading[p + 7..])),
+            // All the words.
+            6 => add(reading),
+            // Program words, protected or not, with the masks of the record.
+            7 => add(&reading[..p])
+                .wrapping_add(reading[p + 7] & d.mask1)
+                .wrapping_add(reading[p + 8] & d.mask2),
+            // The configuration words alone.
+            8 => (reading[p + 7] & d.mask1).wrapping_add(reading[p + 8] & d.mask2),
+            9 => sum.wrapping_add(d.id),
+            10 => 0,
+            _ => rng.u16(),
+        };
+        if other != sum {
+            return other;
+        }
+    }
+}
+
+/// How line 1 of a sheet is to be, its ID apart.
+#[derive(Clone, Copy, Debug, PartialEq, Eq)]
+pub enum Head {
+    /// Of either form, with the right name and the right sum.
+    Sound,
+    /// Of the new form with another name (18), and often another sum.
+    OtherName,
+    /// Of the new form with another sum (19).
+    OtherSum,
+    /// Any of these, since nothing comes of it.
+    Any,
+}
+
+impl Head {
+    /// What suits the number that is aimed at: what comes after that may lie under it.
+    pub fn for_aim(aim: u32) -> Head {
+        match aim {
+            18 => Head::OtherName,
+            19 => Head::OtherSum,
+            12..=17 => Head::Any,
+            _ => Head::Sound,
+        }
+    }
+}
+
+/// A sound sheet of the old form with such a line 1, its ID kept; `others` are names that are not the device's own.
+pub fn headed(
+    d: &Device,
+    name: &[u8],
+    others: &[Vec<u8>],
+    text: &[u8],
+    head: Head,
+    rng: &mut Rng,
+) -> Vec<u8> {
+    let head = match head {
+        Head::Any => rng.pick(&[Head::Sound, Head::OtherName, Head::OtherSum]),
+        head => head,
+    };
+    if head == Head::Sound && rng.chance(40) {
+        return text.to_vec();
+    }
+    let id = own::first_line(text).expect("a line 1").id;
+    let reading = own::reading(d, text).expect("a sound sheet");
+    let shown = if head == Head::OtherName {
+        other_name(name, others, rng)
+    } else {
+        name.to_vec()
+    };
+    let wrong = head == Head::OtherSum || (head == Head::OtherName && rng.chance(50));
+    let sum = if wrong {
+        other_sum(d, &reading, rng)
+    } else {
+        own::sum_of(d, &reading)
+    };
+    [own::new_line(id, &shown, sum), text[5..].to_vec()].concat()
+}
+
+/// The same by a table: the name is the one that it has for the sheet's ID, or any where it has none.
+pub fn headed_by(table: &[u8], d: &Device, text: &[u8], head: Head, rng: &mut Rng) -> Vec<u8> {
+    let listed = lines(table).unwrap_or_default();
+    let id = own::first_line(text).expect("a line 1").id;
+    let mut known = name(rng);
+    let mut others = Vec::new();
+    for l in listed {
+        let this = table[l.name].to_vec();
+        if l.device.fits(id) {
+            known = this;
+        } else {
+            others.push(this);
+        }
+    }
+    headed(d, &known, &others, text, head, rng)
 }
 
 /// A line of six fields where that will do, or of seven.
@@ -348,12 +497,16 @@ fn table_devices(d: &Device, rng: &mut Rng) -> Vec<Device> {
     listed
 }
 
-/// The lines of a table; at times with names as long as can be.
+/// The lines of a table; at times with names as long as can be, or one name for all or for half of them.
 fn table_lines(listed: &[Device], rng: &mut Rng) -> Vec<Vec<u8>> {
-    let long = rng.chance(20);
+    let (same, often) = match rng.below(10) {
+        0 | 1 => (b"0123456789ABCDEF".to_vec(), 100),
+        2 => (name(rng), 50),
+        _ => (Vec::new(), 0),
+    };
     let mut line = |d| {
-        let name = if long {
-            b"0123456789ABCDEF".to_vec()
+        let name = if rng.chance(often) {
+            same.clone()
         } else {
             name(rng)
         };
@@ -559,6 +712,8 @@ pub fn device(name: &str, aim: u32, d: Device, rng: &mut Rng) -> Vec<Field> {
         _ => device_of_any_size(rng),
     };
     match name {
+        "is_name" if aim == 1 => vec![self::name(rng).into()],
+        "is_name" => vec![no_name(rng).into()],
         "judge" if aim == 13 => device_fields(&unlawful(&d, rng)),
         "judge" => device_fields(&d),
         "judge_table" if aim == 15 => vec![bad_table(&d, rng).into()],
@@ -706,7 +861,11 @@ fn is_image(mut d: Device, yes: bool, rng: &mut Rng) -> Vec<Field> {
 
 /// The record's fields, unlawful where 13 is aimed at.
 pub fn record(d: &Device, aim: u32, rng: &mut Rng) -> Vec<Field> {
-    device_fields(&if aim == 13 { unlawful(d, rng) } else { *d })
+    record_if(d, aim == 13, rng)
+}
+
+fn record_if(d: &Device, broken: bool, rng: &mut Rng) -> Vec<Field> {
+    device_fields(&if broken { unlawful(d, rng) } else { *d })
 }
 
 /// Whether a later refusal is laid under the one that is aimed at, so that their order shows.
@@ -768,15 +927,23 @@ pub fn judge(name: &str, aim: u32, d: Device, rng: &mut Rng) -> Vec<Field> {
     fields
 }
 
-/// A sheet malformed in one of the ways that its fixed form leaves, line 1 kept.
+/// Where line 2 of a sheet begins.
+pub fn line_2(text: &[u8]) -> usize {
+    let end = text.iter().position(|&c| c == b'\n');
+    end.expect("a line's end") + 1
+}
+
+/// A sheet malformed in one of the ways that its fixed form leaves. Line 1 is kept, or becomes one of the old form.
 pub fn bad_sheet(d: &Device, text: &[u8], rng: &mut Rng) -> Vec<u8> {
     let mut bad = text.to_vec();
-    let rest = 5..text.len();
+    let begin = line_2(text);
     // The place of a word's first digit: after an address, or after a tab.
-    let starts: Vec<usize> = rest.clone().filter(|&i| text[i - 1] == b'\t').collect();
-    match rng.below(12) {
+    let starts: Vec<usize> = (begin..text.len())
+        .filter(|&i| text[i - 1] == b'\t')
+        .collect();
+    match rng.below(14) {
         0 => {
-            let at = rng.between(5, text.len() - 1);
+            let at = rng.between(begin, text.len() - 1);
             bad[at] = rng.pick(b"\t\n\r aGg:0F\xFF\x00");
         }
         1 => {
@@ -789,16 +956,16 @@ pub fn bad_sheet(d: &Device, text: &[u8], rng: &mut Rng) -> Vec<u8> {
         3 => bad.push(rng.pick(b"\n\r0 \x00")),
         4 => {
             // An address of a line.
-            let line = 5 + 45 * rng.between(0, d.p() / 8);
+            let line = begin + 45 * rng.between(0, d.p() / 8);
             let at = line + rng.below(4);
             bad[at] = if bad[at] == b'1' { b'2' } else { b'1' };
         }
         5 => {
-            let at = 5 + 45 * rng.below(d.p() / 8);
+            let at = begin + 45 * rng.below(d.p() / 8);
             bad.drain(at..at + 45);
         }
         6 => {
-            let at = 5 + 45 * rng.below(d.p() / 8);
+            let at = begin + 45 * rng.below(d.p() / 8);
             let line = bad[at..at + 45].to_vec();
             bad.splice(at..at, line);
         }
@@ -807,7 +974,7 @@ pub fn bad_sheet(d: &Device, text: &[u8], rng: &mut Rng) -> Vec<u8> {
             bad.insert(at, b'\r');
         }
         8 if rng.chance(10) => bad.resize(rng.pick(&[65_536, 65_537, 70_000]), b'0'),
-        8 => bad.truncate(rng.between(5, text.len() - 1)),
+        8 => bad.truncate(rng.between(begin, text.len() - 1)),
         9 => {
             let at = rng.pick(&starts) + rng.below(4);
             bad[at] = rng.pick(b"abcdef/:@G`g");
@@ -816,6 +983,18 @@ pub fn bad_sheet(d: &Device, text: &[u8], rng: &mut Rng) -> Vec<u8> {
             let at = rng.pick(&starts) - 1;
             bad[at] = b' ';
         }
+        // Line 1 once more, of either form.
+        11 => {
+            let again = if rng.chance(50) {
+                text[..begin].to_vec()
+            } else {
+                [&text[..4], b"\n"].concat()
+            };
+            bad.splice(begin..begin, again);
+        }
+        // LF behind the ID, so that name and sum are line 2; of the old form its LF twice.
+        12 if text[4] == b'\t' => bad[4] = b'\n',
+        12 => bad.insert(4, b'\n'),
         _ => {
             let at = rng.pick(&starts);
             bad.insert(at, b'0');
@@ -824,20 +1003,24 @@ pub fn bad_sheet(d: &Device, text: &[u8], rng: &mut Rng) -> Vec<u8> {
     bad
 }
 
-/// A first line that no record has.
+/// A first line of neither form.
 pub fn bad_first_line(text: &[u8], rng: &mut Rng) -> Vec<u8> {
     let mut bad = text.to_vec();
+    if text[4] == b'\t' && rng.chance(75) {
+        return bad_new_line(text, rng);
+    }
     match rng.below(9) {
         0 => bad[0] = rng.pick(b"456789ABCDEF"),
         // The ID, and a bit above 3FFFh.
         7 | 8 => {
-            let id = own::first_line(text).unwrap_or(0);
+            let id = own::first_line(text).map_or(0, |first| first.id);
             bad = with_id(text, id | rng.pick(&[0x4000, 0x8000, 0xC000]));
         }
         1 => {
             let at = rng.below(4);
             bad[at] = rng.pick(b"abcdef/:@G`g \t\n");
         }
+        2 if text[4] == b'\t' => bad[4] = rng.pick(b"\r 0"),
         2 => bad[4] = rng.pick(b"\r \t0"),
         3 => {
             bad.remove(0);
@@ -849,9 +1032,90 @@ pub fn bad_first_line(text: &[u8], rng: &mut Rng) -> Vec<u8> {
     bad
 }
 
+/// A first line of the new form with something wrong behind its ID.
+fn bad_new_line(text: &[u8], rng: &mut Rng) -> Vec<u8> {
+    let begin = line_2(text);
+    let (line, rest) = (&text[..begin - 1], &text[begin..]);
+    let fields: Vec<&[u8]> = line.split(|&c| c == b'\t').collect();
+    let (id, name, sum) = (fields[0], fields[1], fields[2]);
+    let wrong = no_name(rng);
+    // The sum itself in small letters where it has any.
+    let mut small = sum.to_ascii_lowercase();
+    if small == sum {
+        small = rng.pick(&[b"7ee2", b"00a0", b"fFFF", b"FFFf"]).to_vec();
+    }
+    let mut spelt = sum.to_vec();
+    match rng.below(8) {
+        0 => spelt.clear(),
+        1 => {
+            spelt.pop();
+        }
+        2 => {
+            spelt.remove(0);
+        }
+        3 => spelt.push(rng.pick(b"0 \r\x00")),
+        4 => spelt.insert(0, rng.pick(b"0 +")),
+        5 => spelt.truncate(rng.below(4)),
+        _ => spelt[rng.below(4)] = rng.pick(b"/:@G`g \r+\x00"),
+    }
+    let at = rng.below(name.len());
+    let parted = [&name[..at], b"\t", &name[at..]].concat();
+    let broken = [&name[..at], b"\n", &name[at..]].concat();
+    let fields: Vec<&[u8]> = match rng.below(18) {
+        // Two fields, or four and more.
+        0 => vec![id, name],
+        1 => vec![id, sum],
+        2 => vec![id, name, sum, b""],
+        3 => vec![id, name, sum, sum],
+        4 => vec![id, name, name, sum],
+        5 => vec![id, b"", name, sum],
+        6 => vec![id, &parted, sum],
+        // Three in another order.
+        7 => vec![id, sum, name],
+        8 => vec![name, id, sum],
+        // The name.
+        9 => vec![id, b"", sum],
+        10 | 11 => vec![id, &wrong, sum],
+        12 => vec![id, &broken, sum],
+        // The sum.
+        13 => vec![id, name, &small],
+        14 | 15 => vec![id, name, &spelt],
+        _ => vec![id, name, sum],
+    };
+    let mut bad = fields.join(&b'\t');
+    if fields == [id, name, sum] {
+        // What stands between the fields and at the end.
+        let second = 5 + name.len();
+        match rng.below(5) {
+            0 => bad.push(rng.pick(b"\r \t0")),
+            1 => bad[second] = rng.pick(b"\n\r 0,"),
+            2 => bad[4] = rng.pick(b"\r 0,"),
+            // Cut, or run together with line 2.
+            3 => {
+                bad.truncate(rng.below(line.len() + 1));
+                return bad;
+            }
+            _ => return [line, rest].concat(),
+        }
+    }
+    [bad.as_slice(), b"\n", rest].concat()
+}
+
 /// A whole sheet with another ID on line 1.
 pub fn with_id(text: &[u8], id: u16) -> Vec<u8> {
     [format!("{id:04X}").into_bytes(), text[4..].to_vec()].concat()
+}
+
+/// The fields of a record and its name, one of which or both are wrong where 13 is aimed at.
+fn record_and_name(d: &Device, name: &[u8], aim: u32, rng: &mut Rng) -> Vec<Field> {
+    let (record, named) = rng.pick(&[(true, false), (false, true), (false, true), (true, true)]);
+    let mut fields = record_if(d, aim == 13 && record, rng);
+    fields.push(if aim == 13 && named {
+        no_name(rng).into()
+    } else {
+        name.to_vec().into()
+    });
+    fields
 }
 
 pub fn sheet(name: &str, aim: u32, d: Device, rng: &mut Rng) -> Vec<Field> {
@@ -862,10 +1126,12 @@ pub fn sheet(name: &str, aim: u32, d: Device, rng: &mut Rng) -> Vec<Field> {
     }
     // Line 1 need only fit, and is not held against 8006h.
     let mut text = with_id(&own::text(&d, &reading), fitting(&d, rng));
+    let called = self::name(rng);
     match name {
         "read_id" => {
+            text = headed(&d, &called, &[], &text, Head::Any, rng);
             if rng.chance(70) {
-                text.truncate(5 + rng.below(3));
+                text.truncate(line_2(&text) + rng.below(3));
             }
             if rng.chance(30) {
                 text.extend(lent(5, rng));
@@ -876,10 +1142,11 @@ pub fn sheet(name: &str, aim: u32, d: Device, rng: &mut Rng) -> Vec<Field> {
             vec![text.into()]
         }
         "read_sheet" => {
-            let mut fields = record(&d, aim, rng);
+            let mut fields = record_and_name(&d, &called, aim, rng);
+            text = headed(&d, &called, &[], &text, Head::for_aim(aim), rng);
             if aim == 14 || also(aim, &[13, 12], rng) {
                 text = match rng.below(6) {
-                    0 => bad_first_line(&text, rng),
+                    0 | 4 => bad_first_line(&text, rng),
                     5 => with_id(&text, no_word(&d, rng)),
                     1 => with_id(&text, other_word(&d, rng).unwrap_or(no_word(&d, rng))),
                     _ => bad_sheet(&d, &text, rng),
@@ -893,7 +1160,12 @@ pub fn sheet(name: &str, aim: u32, d: Device, rng: &mut Rng) -> Vec<Field> {
             fields
         }
         _ => {
-            let mut fields = record(&d, aim, rng);
+            let mut fields = if name == "write_new_sheet" {
+                text = own::new_text(&d, &called, &reading);
+                record_and_name(&d, &called, aim, rng)
+            } else {
+                record(&d, aim, rng)
+            };
             let short = aim == 26 || also(aim, &[13, 21], rng);
             let length = room(text.len(), short, rng);
             if aim == 21 || also(aim, &[13], rng) {

@@ -10,9 +10,10 @@ use crate::calls::{Request, CALLS};
 use crate::device::Device;
 use crate::field::{Field, Kind, LINE_MAX};
 use crate::rng::Rng;
+use crate::sheet::Form;
 use boards::any_device;
 
-pub use boards::{device_of_size, fitting, image_for, large_device, reading_for, with_id};
+pub use boards::{device_of_size, fitting, image_for, large_device, name, reading_for, with_id};
 
 /// How an input is made.
 #[derive(Clone, Copy, Debug)]
@@ -65,6 +66,8 @@ fn aimed(call: usize, aim: u32, d: Device, rng: &mut Rng) -> Vec<Field> {
         "words" => texts::words(rest, aim, rng),
         "device" => boards::device(rest, aim, d, rng),
         "judge" => boards::judge(rest, aim, d, rng),
+        "sheet" if rest == "to_new" => benches::moves(Form::New, aim, d, rng),
+        "sheet" if rest == "to_old" => benches::moves(Form::Old, aim, d, rng),
         "sheet" => boards::sheet(rest, aim, d, rng),
         "ihex" => hexes::ihex(rest, aim, d, rng),
         "target" => plans::target(rest, aim, d, rng),

@@ -4,17 +4,17 @@ use borrow.Author.Needs.{needs}
 use Rattle.table.proofs.line.read_fields.Statement.{statement}
 use Rattle.table.proofs.line.read_fields.Tie as tie
 
-slice-aggregate-name-ok : tie.Need-slice-aggregate-name-ok
-slice-aggregate-name-ok c = name-length _ _ _ _ _ _ _ (c .before .before .pre)
+slice-aggregate-is-name : tie.Need-slice-aggregate-is-name
+slice-aggregate-is-name c = name-length _ _ _ _ _ _ _ (c .before .before .pre)
 
-name-ok-requires : tie.Need-name-ok-requires
-name-ok-requires c κs = search needs
+is-name-requires : tie.Need-is-name-requires
+is-name-requires c κs = search needs
 
 no-line-requires : tie.Need-no-line-requires
 no-line-requires c κs = search needs
 
 returns : tie.Need-returns
-returns c = fields-no-name _ _ _ _ _ _ _ (c .before .before .before .before .before .pre) _ _ _ _ (c .before .before .name-ok .ensures) (c .before .if1 .left) (c .no-line .ensures)
+returns c = fields-no-name _ _ _ _ _ _ _ (c .before .before .before .before .before .pre) _ _ _ _ (c .before .before .is-name .ensures) (c .before .if1 .left) (c .no-line .ensures)
 
 add-hex-field : tie.Need-add-hex-field
 add-hex-field c = search needs
@@ -103,7 +103,7 @@ device-of-requires c κs = search needs
 returns-2 : tie.Need-returns-2
 returns-2 c = fields-read _ _ _ _ _ _ _
     (c .before .before .before .before .before .before .before .before .before .before .before .before .before .before .before .before .before .pre) _ _ _ _ _ _ _ _ _
-    (c .before .before .before .before .before .before .before .before .before .before .before .before .before .before .name-ok .ensures)
+    (c .before .before .before .before .before .before .before .before .before .before .before .before .before .before .is-name .ensures)
     (c .before .before .before .before .before .before .before .before .before .before .before .before .before .if1 .taken)
     (c .before .before .before .before .before .before .before .before .before .before .before .hex-field .ensures)
     (c .before .before .before .before .before .before .before .before .before .read .ensures) (c .before .before .before .before .before .before .before .read2 .ensures)
@@ -113,8 +113,8 @@ pub read-fields-spec : {M : Type 1} → statement M
 read-fields-spec =
     tie.close
     (tie.spec
-    slice-aggregate-name-ok
-    name-ok-requires
+    slice-aggregate-is-name
+    is-name-requires
     no-line-requires
     returns
     add-hex-field

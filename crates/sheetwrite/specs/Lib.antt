@@ -1,0 +1,3 @@
+-- The sheet writers, and their laws in the modules whose names begin with Laws.
+pub mod Write
+pub mod LawsWrite
