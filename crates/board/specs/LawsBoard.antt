@@ -15,10 +15,11 @@ use Rattle.words.specs.LawsChoice.{pick-true, pick-false}
 use Rattle.device.specs.declared.Device.{Device}
 use Rattle.device.specs.Record.{deviceUpTo, deviceOk}
 use Rattle.device.specs.Memory.{readingTail, readingOk}
-use Rattle.sheet.specs.Sheet.{sheetOk, wordsIn, readNumber, readBuffer}
-use Rattle.sheet.specs.LawsSheet.{length-words, read-sound}
-use Rattle.board.specs.Open.{mostProgram, recordOf, openNumber, boardNumber, boardReading, openedReading}
-use Rattle.board.specs.LawsOpen.{served-most, opened-sound, opened-served, read-number, sheet-words}
+use Rattle.table.specs.Table.{nameOk}
+use Rattle.sheet.specs.Sheet.{sheetOk, wordsIn, sheetNumber, readNumber, readBuffer}
+use Rattle.sheet.specs.LawsSheet.{length-words, read-sound, taken}
+use Rattle.board.specs.Open.{mostProgram, recordOf, nameOf, openNumber, boardNumber, boardReading, openedReading}
+use Rattle.board.specs.LawsOpen.{served-most, opened-sound, opened-named, opened-served, read-number, sheet-words}
 
 -- the most words that the reading of a board has
 abbrev pub mostReading : ℕ
@@ -39,12 +40,12 @@ module _ (table sheet : List ℕ) where
   unfolding boardNumber pick
   board-refused n = rw (ne-eqb (openNumber table sheet) 0 n)
 
-  pub board-found : openNumber table sheet ≡ 0 → boardNumber table sheet ≡ pick (sheetOk (recordOf table sheet) sheet) 0 14
+  pub board-found : openNumber table sheet ≡ 0 → boardNumber table sheet ≡ sheetNumber (recordOf table sheet) (nameOf table sheet) sheet
   unfolding boardNumber pick
   board-found z = rw (eq-eqb (openNumber table sheet) 0 z)
 
   -- a board that is not refused has a record
-  record-there : boardNumber table sheet ≡ 0 → openNumber table sheet ≡ 0
+  pub record-there : boardNumber table sheet ≡ 0 → openNumber table sheet ≡ 0
   record-there z = by (ℕ-discrete (openNumber table sheet) 0)
     where
       by : Dec (openNumber table sheet ≡ 0) → openNumber table sheet ≡ 0
@@ -59,11 +60,10 @@ module _ (table sheet : List ℕ) where
 
   -- and its sheet is a sheet
   sheet-there : boardNumber table sheet ≡ 0 → sheetOk (recordOf table sheet) sheet ≡ true
-  sheet-there z = by (sheetOk (recordOf table sheet) sheet) (sym (board-found (record-there z)) ∙ z)
-    where
-      by : (s : _) → pick {A = ℕ} s 0 14 ≡ 0 → s ≡ true
-      by true q = refl
-      by false q = absurd (unfold pick in omega (arith, q))
+  sheet-there z = taken (recordOf table sheet) (nameOf table sheet) sheet (sym (board-found (record-there z)) ∙ z) .ok
+
+  pub board-named : boardNumber table sheet ≡ 0 → nameOk (nameOf table sheet) ≡ true
+  board-named z = opened-named table sheet (record-there z)
 
   -- ---- what the code's parts come to
 
@@ -75,9 +75,12 @@ module _ (table sheet : List ℕ) where
   kept-buffer number e n before = sym (pick-false _ _ _ (ne-eqb (boardNumber table sheet) 0 (λ z. n (e ∙ z))))
 
   -- the sheet is read into the first words of the buffer
-  module _ (z : openNumber table sheet ≡ 0) (d : Device) (is : d ≡ recordOf table sheet) (before : List ℕ) (long : length before ≡ mostReading) where
+  module _ (z : openNumber table sheet ≡ 0) (d : Device) (is : d ≡ recordOf table sheet) (name : List ℕ) (cut : name ≡ nameOf table sheet) (before : List ℕ) (long : length before ≡ mostReading) where
     keeps : deviceOk d ≡ true
     keeps = ap deviceOk is ∙ opened-sound table sheet z
+
+    named : nameOk name ≡ true
+    named = ap nameOk cut ∙ opened-named table sheet z
 
     pub read-room : d .words + readingTail ≤ length before
     read-room = let most : d .words ≤ mostProgram = served-most d (ap (deviceUpTo mostProgram) is ∙ opened-served table sheet z) in omega arith
@@ -85,21 +88,21 @@ module _ (table sheet : List ℕ) where
     front-long : length (take (d .words + readingTail) before) ≡ d .words + readingTail
     front-long = length-take-le (d .words + readingTail) before read-room
 
-    module _ (number : ℕ) (e : number ≡ readNumber d sheet (take (d .words + readingTail) before)) where
+    module _ (number : ℕ) (e : number ≡ readNumber d name sheet (take (d .words + readingTail) before)) where
       pub read-number-is : number ≡ boardNumber table sheet
       read-number-is =
-          read-number d keeps sheet (take (d .words + readingTail) before) front-long number e
-          ∙ (ap (λ x. pick (sheetOk x sheet) 0 14) is ∙ sym (board-found z))
+          read-number d keeps name named sheet (take (d .words + readingTail) before) front-long number e
+          ∙ ((λ i. sheetNumber (is i) (cut i) sheet) ∙ sym (board-found z))
 
-      pub read-reading : (after : List ℕ) → after ≡ readBuffer d sheet (take (d .words + readingTail) before) ++ drop (d .words + readingTail) before → after ≡ openedReading table sheet before
+      pub read-reading : (after : List ℕ) → after ≡ readBuffer d name sheet (take (d .words + readingTail) before) ++ drop (d .words + readingTail) before → after ≡ openedReading table sheet before
       read-reading after f = f ∙ by (ℕ-discrete number 0)
         where
           words : List ℕ
-          words = readBuffer d sheet (take (d .words + readingTail) before)
+          words = readBuffer d name sheet (take (d .words + readingTail) before)
 
           by : Dec (number ≡ 0) → words ++ drop (d .words + readingTail) before ≡ openedReading table sheet before
           by (yes y) =
-              let these : words ≡ wordsIn (d .words) sheet = sheet-words d keeps sheet (take (d .words + readingTail) before) front-long number e y words refl in
+              let these : words ≡ wordsIn (d .words) sheet = sheet-words d keeps name named sheet (take (d .words + readingTail) before) front-long number e y words refl in
               let count : length (wordsIn (d .words) sheet) ≡ d .words + readingTail = length-words (d .words) sheet in
               let fits : 0 + length (wordsIn (d .words) sheet) ≤ length before = rw (zero-add, count) read-room in
               let stored : sets before 0 (wordsIn (d .words) sheet) ≡ wordsIn (d .words) sheet ++ drop (0 + length (wordsIn (d .words) sheet)) before = sets-eq
@@ -110,7 +113,7 @@ module _ (table sheet : List ℕ) where
               ∙ (unfold openedReading boardReading in ap (λ x. sets before 0 (wordsIn (x .words) sheet)) is ∙ sym (pick-true _ _ _ (eq-eqb (boardNumber table sheet) 0 (sym read-number-is ∙ y))))))
           by (no n) =
               let stays : words ≡ take (d .words + readingTail) before = (unfold readBuffer in pick-false _ _ _
-              (ne-eqb (readNumber d sheet (take (d .words + readingTail) before)) 0 (λ y. n (e ∙ y)))) in
+              (ne-eqb (readNumber d name sheet (take (d .words + readingTail) before)) 0 (λ y. n (e ∙ y)))) in
               ap (λ x. x ++ drop (d .words + readingTail) before) stays ∙ (take-append-drop (d .words + readingTail) before ∙ kept-buffer number read-number-is n before)
 
 -- ---- what a caller has of a board that is not refused, in a buffer of the most words

@@ -1,25 +1,38 @@
 -- Laws of a board's record, from what the code's parts answer.
-use Prim.Native.Nat.{ℕ, _+_, _≤_, _<_}
+use Prim.Native.Nat.{ℕ, _+_, _-_, _≤_, _<_}
 use native.Mathlib.Omega.{arith}
 use mathlib.Core.Path.{_≡_, refl, sym, ap, _∙_}
 use mathlib.Core.Bool.{Bool, true, false}
 use mathlib.Core.List.{List}
 use lib.Dec.{leb, eqb}
-use lib.ListN.{length}
+use lib.ListN.{length, take, drop}
 use borrow.Author.Tests.{eq-eqb, eqb-true, ne-eqb, le-leb, lt-leb, leb-true}
-use Rattle.words.specs.Choice.{pick}
-use Rattle.words.specs.LawsChoice.{pick-true}
+use Rattle.words.specs.Choice.{pick, unless}
+use Rattle.words.specs.LawsChoice.{pick-true, both}
 use Rattle.device.specs.declared.Device.{Device}
 use Rattle.table.specs.declared.Found.{Found}
 use Rattle.device.specs.Record.{mostWords, deviceUpTo, deviceOk}
-use Rattle.table.specs.Table.{tableOk, tableLines, hasId, refused, given, startOf, lineWith, foundUpTo, foundIn}
+use Rattle.table.specs.Table.{tableOk, tableLines, hasId, refused, given, startOf, lineWith, foundUpTo, foundIn, nameOk, nameAt}
 use Rattle.device.specs.LawsRecord.{rules-up-to, other-limit, more-words}
 use Rattle.device.specs.Memory.{readingTail}
 use Rattle.table.specs.LawsTable.{found-sound}
+use Rattle.table.specs.LawsName.{found-name, found-within}
 use Rattle.sheet.specs.declared.Line1.{Line1}
-use Rattle.sheet.specs.Sheet.{idIn, firstLine, sheetLength, sheetOk, wordsIn, readNumber, readBuffer}
-use Rattle.sheet.specs.LawsRead.{id-stands}
-use Rattle.board.specs.Open.{mostProgram, recordOf, openNumber}
+use Rattle.sheet.specs.FirstLine.{idIn, firstLine}
+use Rattle.sheet.specs.Sheet.{bodyLength, sheetOk, wordsIn, sheetNumber, readNumber, readBuffer}
+use Rattle.sheet.specs.LawsFirstLine.{id-stands}
+use Rattle.sheet.specs.LawsSheet.{taken}
+use Rattle.sheetwrite.specs.Write.{sheetLength}
+use Rattle.board.specs.Open.{mostProgram, recordOf, nameOf, openNumber}
+
+-- what the numbers of line 1 and of the search and the found record's program words come to
+unfoldable pub openBy : (line search words : ℕ) → ℕ
+openBy line search words =
+    pick (eqb search 15) 15
+    (unless (eqb line 0) 14
+    (unless (eqb search 0) 16
+    (unless (leb words mostProgram) 17
+    0)))
 
 -- the number of the search by itself
 found-number : (table : List ℕ) (id : ℕ) → foundIn table id .number ≡ pick (tableOk table) (pick (hasId id (tableLines table)) 0 16) 15
@@ -43,61 +56,24 @@ module _ (table sheet : List ℕ) (first : Line1) (found : Found) (e : first ≡
   unfolding recordOf
   opened-device = ap (λ x. x .device) same
 
-  pub opened-15 : found .number ≡ 15 → 15 ≡ openNumber table sheet
+  pub opened-at : found .«name_at» ≡ foundIn table (firstLine sheet .id) .«name_at»
+  opened-at = ap (λ x. x .«name_at») same
+
+  pub opened-len : found .«name_len» ≡ foundIn table (firstLine sheet .id) .«name_len»
+  opened-len = ap (λ x. x .«name_len») same
+
+  -- the number by what the code's parts answer
+  pub opened-by : openBy (first .number) (found .number) (found .device .words) ≡ openNumber table sheet
   unfolding openNumber
-  opened-15 g = by (tableOk table) (hasId (firstLine sheet .id) (tableLines table)) (sym number-is ∙ g)
+  opened-by =
+      (λ i. openBy (e i .number) (found .number) (opened-device i .words)) ∙ by (tableOk table) (hasId (firstLine sheet .id) (tableLines table)) number-is
     where
-      by : (t h : Bool) → pick {A = ℕ} t (pick {A = ℕ} h 0 16) 15 ≡ 15
-          → 15 ≡ pick {A = ℕ} t (pick {A = ℕ} (eqb (firstLine sheet .number) 0) (pick {A = ℕ} h (pick {A = ℕ} (leb (recordOf table sheet .words) mostProgram) 0 17) 16) 14) 15
-      by true true q = absurd (unfold pick in omega (arith, q))
-      by true false q = absurd (unfold pick in omega (arith, q))
-      by false h q = unfold pick in refl
-
-  module _ (sound : found .number ≡ 15 → ⊥) where
-    table-sound : tableOk table ≡ true
-    table-sound = by (tableOk table) number-is
-      where
-        by : (t : Bool) → found .number ≡ pick t (pick (hasId (firstLine sheet .id) (tableLines table)) 0 16) 15 → t ≡ true
-        by true q = refl
-        by false q = absurd (sound (unfold pick in q))
-
-    pub opened-14 : (first .number ≡ 0 → ⊥) → 14 ≡ openNumber table sheet
-    unfolding openNumber pick
-    opened-14 n = rw (table-sound, ne-eqb (firstLine sheet .number) 0 (λ z. n (ap (λ x. x .number) e ∙ z)))
-
-    module _ (z : first .number ≡ 0) where
-      line-sound : eqb (firstLine sheet .number) 0 ≡ true
-      line-sound = eq-eqb (firstLine sheet .number) 0 (sym (ap (λ x. x .number) e) ∙ z)
-
-      searched : found .number ≡ pick (hasId (firstLine sheet .id) (tableLines table)) 0 16
-      searched = number-is ∙ pick-true (tableOk table) _ _ table-sound
-
-      pub opened-16 : (found .number ≡ 0 → ⊥) → 16 ≡ openNumber table sheet
-      unfolding openNumber pick
-      opened-16 n = rw (table-sound, line-sound, by (hasId (firstLine sheet .id) (tableLines table)) searched)
-        where
-          by : (h : Bool) → found .number ≡ pick h 0 16 → h ≡ false
-          by true q = absurd (n (unfold pick in q))
-          by false q = refl
-
-      module _ (y : found .number ≡ 0) where
-        id-there : hasId (firstLine sheet .id) (tableLines table) ≡ true
-        id-there = by (hasId (firstLine sheet .id) (tableLines table)) (sym y ∙ searched)
-          where
-            by : (h : Bool) → 0 ≡ pick {A = ℕ} h 0 16 → h ≡ true
-            by true q = refl
-            by false q = absurd (unfold pick in omega (arith, q))
-
-        words-are : found .device .words ≡ recordOf table sheet .words
-        words-are = ap (λ d. d .words) opened-device
-
-        pub opened-17 : mostProgram < found .device .words → 17 ≡ openNumber table sheet
-        unfolding openNumber pick
-        opened-17 m = rw (table-sound, line-sound, id-there, lt-leb (recordOf table sheet .words) mostProgram (omega (arith, words-are)))
-
-        pub opened-0 : found .device .words ≤ mostProgram → 0 ≡ openNumber table sheet
-        unfolding openNumber pick
-        opened-0 m = rw (table-sound, line-sound, id-there, le-leb (recordOf table sheet .words) mostProgram (omega (arith, words-are)))
+      by : (t h : Bool) → found .number ≡ pick t (pick h 0 16) 15
+          → openBy (firstLine sheet .number) (found .number) (recordOf table sheet .words)
+          ≡ pick {A = ℕ} t (pick {A = ℕ} (eqb (firstLine sheet .number) 0) (pick {A = ℕ} h (pick {A = ℕ} (leb (recordOf table sheet .words) mostProgram) 0 17) 16) 14) 15
+      by true true q = ap (λ n. openBy (firstLine sheet .number) n (recordOf table sheet .words)) q ∙ (unfold openBy pick in refl)
+      by true false q = ap (λ n. openBy (firstLine sheet .number) n (recordOf table sheet .words)) q ∙ (unfold openBy pick in refl)
+      by false h q = ap (λ n. openBy (firstLine sheet .number) n (recordOf table sheet .words)) q ∙ (unfold openBy pick in refl)
 
 -- ---- a device that the programs serve
 
@@ -111,7 +87,7 @@ module _ (d : Device) (served : deviceUpTo mostProgram d ≡ true) where
 
   -- how long its sheet is at most
   pub served-sheet : sheetLength d ≤ 46135
-  unfolding sheetLength
+  unfolding sheetLength bodyLength
   served-sheet = let most : d .words ≤ mostProgram = served-most in omega arith
 
 -- ---- a record that was found
@@ -121,16 +97,24 @@ record Opens (table sheet : List ℕ) : Type 0 where
   pub first : firstLine sheet .number ≡ 0
   pub sound : deviceOk (recordOf table sheet) ≡ true
   pub few : recordOf table sheet .words ≤ mostProgram
+  pub named : nameOk (nameOf table sheet) ≡ true
+  pub within : foundIn table (firstLine sheet .id) .«name_at» + foundIn table (firstLine sheet .id) .«name_len» ≤ length table
 
 opens : (table sheet : List ℕ) → openNumber table sheet ≡ 0 → Opens table sheet
-unfolding openNumber recordOf
+unfolding openNumber recordOf nameOf
 opens table sheet z =
     by (tableOk table) (eqb (firstLine sheet .number) 0) (hasId (firstLine sheet .id) (tableLines table)) (leb (recordOf table sheet .words) mostProgram) z
-    (eqb-true (firstLine sheet .number) 0) (found-sound table (firstLine sheet .id)) (leb-true (recordOf table sheet .words) mostProgram)
+    (eqb-true (firstLine sheet .number) 0) (λ t h. (found-sound table (firstLine sheet .id) t h, found-name table (firstLine sheet .id) t h, found-within table (firstLine sheet .id) t h))
+    (leb-true (recordOf table sheet .words) mostProgram)
   where
+    Sound : Type 0
+    Sound =
+        (deviceOk (foundIn table (firstLine sheet .id) .device) ≡ true) × (nameOk (nameAt table (foundIn table (firstLine sheet .id))) ≡ true)
+        × (foundIn table (firstLine sheet .id) .«name_at» + foundIn table (firstLine sheet .id) .«name_len» ≤ length table)
+
     by : (t f h w : Bool) → pick {A = ℕ} t (pick {A = ℕ} f (pick {A = ℕ} h (pick {A = ℕ} w 0 17) 16) 14) 15 ≡ 0
-        → (f ≡ true → firstLine sheet .number ≡ 0) → (t ≡ true → h ≡ true → deviceOk (foundIn table (firstLine sheet .id) .device) ≡ true) → (w ≡ true → recordOf table sheet .words ≤ mostProgram) → Opens table sheet
-    by true true true true q j k m = record { first = j refl; sound = k refl refl; few = m refl }
+        → (f ≡ true → firstLine sheet .number ≡ 0) → (t ≡ true → h ≡ true → Sound) → (w ≡ true → recordOf table sheet .words ≤ mostProgram) → Opens table sheet
+    by true true true true q j k m = record { first = j refl; sound = k refl refl .0; few = m refl; named = k refl refl .1; within = k refl refl .2 }
     by true true true false q j k m = absurd (unfold pick in omega (arith, q))
     by true true false w q j k m = absurd (unfold pick in omega (arith, q))
     by true false h w q j k m = absurd (unfold pick in omega (arith, q))
@@ -142,6 +126,22 @@ opened-id table sheet z = id-stands sheet (opens table sheet z .first)
 
 pub opened-sound : (table sheet : List ℕ) → openNumber table sheet ≡ 0 → deviceOk (recordOf table sheet) ≡ true
 opened-sound table sheet z = opens table sheet z .sound
+
+-- its name is a table name, and stands within the table
+pub opened-named : (table sheet : List ℕ) → openNumber table sheet ≡ 0 → nameOk (nameOf table sheet) ≡ true
+opened-named table sheet z = opens table sheet z .named
+
+pub opened-within : (table sheet : List ℕ) → openNumber table sheet ≡ 0 → foundIn table (firstLine sheet .id) .«name_at» + foundIn table (firstLine sheet .id) .«name_len» ≤ length table
+opened-within table sheet z = opens table sheet z .within
+
+-- the name, as the code cuts it out of the table
+module _ (table sheet : List ℕ) (at len : ℕ) (e : at ≡ foundIn table (firstLine sheet .id) .«name_at») (f : len ≡ foundIn table (firstLine sheet .id) .«name_len») where
+  pub name-cut : take (at + len - at) (drop at table) ≡ nameOf table sheet
+  unfolding nameOf nameAt
+  name-cut = let n : at + len - at ≡ len = omega arith in ap (λ k. take k (drop at table)) n ∙ (λ i. take (f i) (drop (e i) table))
+
+  pub name-inside : openNumber table sheet ≡ 0 → at + len ≤ length table
+  name-inside z = let w = opened-within table sheet z in rw (e, f) w
 
 -- so it is one that the programs serve
 pub opened-served : (table sheet : List ℕ) → openNumber table sheet ≡ 0 → deviceUpTo mostProgram (recordOf table sheet) ≡ true
@@ -155,27 +155,17 @@ module _ (table sheet : List ℕ) (n : ℕ) (e : n ≡ openNumber table sheet) (
   pub opened-most : d .words ≤ mostProgram
   opened-most = served-most d opened-serves
 
--- ---- a sheet that is read under a sound record, into a buffer of its length
+-- ---- a sheet that is read under a sound record and a name, into a buffer of its length
 
-module _ (d : Device) (sound : deviceOk d ≡ true) (t b : List ℕ) (long : length b ≡ d .words + readingTail) (n : ℕ) (e : n ≡ readNumber d t b) where
-  pub read-number : n ≡ pick (sheetOk d t) 0 14
+module _ (d : Device) (sound : deviceOk d ≡ true) (name : List ℕ) (named : nameOk name ≡ true) (t b : List ℕ) (long : length b ≡ d .words + readingTail) (n : ℕ)
+    (e : n ≡ readNumber d name t b) where
+  pub read-number : n ≡ sheetNumber d name t
   unfolding readNumber pick
-  read-number = e ∙ (rw (sound, eq-eqb (length b) (d .words + readingTail) long))
-
-  pub sheet-bad : (n ≡ 0 → ⊥) → sheetOk d t ≡ false
-  sheet-bad h = by (sheetOk d t) read-number
-    where
-      by : (s : Bool) → n ≡ pick s 0 14 → s ≡ false
-      by true q = absurd (h (unfold pick in q))
-      by false q = refl
+  read-number = e ∙ (rw (both (deviceOk d) (nameOk name) sound named, eq-eqb (length b) (d .words + readingTail) long))
 
   pub sheet-good : n ≡ 0 → sheetOk d t ≡ true
-  sheet-good z = by (sheetOk d t) (sym z ∙ read-number)
-    where
-      by : (s : Bool) → 0 ≡ pick {A = ℕ} s 0 14 → s ≡ true
-      by true q = refl
-      by false q = absurd (unfold pick in omega (arith, q))
+  sheet-good z = taken d name t (sym read-number ∙ z) .ok
 
-  pub sheet-words : n ≡ 0 → (b′ : List ℕ) → b′ ≡ readBuffer d t b → b′ ≡ wordsIn (d .words) t
+  pub sheet-words : n ≡ 0 → (b′ : List ℕ) → b′ ≡ readBuffer d name t b → b′ ≡ wordsIn (d .words) t
   unfolding readBuffer pick
-  sheet-words z b′ f = f ∙ (rw (eq-eqb (readNumber d t b) 0 (sym e ∙ z)))
+  sheet-words z b′ f = f ∙ (rw (eq-eqb (readNumber d name t b) 0 (sym e ∙ z)))

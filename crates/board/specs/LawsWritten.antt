@@ -15,10 +15,10 @@ use Rattle.device.specs.declared.Device.{Device}
 use Rattle.device.specs.Record.{deviceUpTo}
 use Rattle.device.specs.Memory.{readingOk}
 use Rattle.device.specs.LawsId.{withId, with-id}
-use Rattle.sheet.specs.declared.Written.{Written}
-use Rattle.sheet.specs.Sheet.{sheetWith, sheetText, sheetLength, written, writtenText}
-use Rattle.sheet.specs.LawsSheet.{length-sheet}
-use Rattle.sheet.specs.LawsWrite.{with-text}
+use Rattle.sheet.specs.Sheet.{sheetWith}
+use Rattle.sheetwrite.specs.declared.Written.{Written}
+use Rattle.sheetwrite.specs.Write.{sheetText, sheetLength, written, writtenText}
+use Rattle.sheetwrite.specs.LawsWrite.{length-sheet, with-text}
 use Rattle.board.specs.Open.{mostProgram}
 use Rattle.board.specs.LawsOpen.{served-sound, served-sheet}
 

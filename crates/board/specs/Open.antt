@@ -1,12 +1,13 @@
--- A board's table and sheet, opened: 15, 14 for the sheet's first line, 16, 17, 14 for the rest ('Refusal numbers', the programs; #105).
+-- A board's table and sheet, opened: 15, 14 for the sheet's first line, 16, 17, 14 for the rest, 18, 19 ('Refusal numbers', the programs; #105; #106).
 use Prim.Native.Nat.{ℕ}
 use mathlib.Core.List.{List}
 use lib.Dec.{leb, eqb}
 use lib.Seq.{sets}
 use Rattle.words.specs.Choice.{pick, unless}
 use Rattle.device.specs.declared.Device.{Device}
-use Rattle.table.specs.Table.{tableOk, tableLines, hasId, foundIn}
-use Rattle.sheet.specs.Sheet.{firstLine, sheetOk, wordsIn}
+use Rattle.table.specs.Table.{tableOk, tableLines, hasId, foundIn, nameAt}
+use Rattle.sheet.specs.FirstLine.{firstLine}
+use Rattle.sheet.specs.Sheet.{sheetNumber, wordsIn}
 
 -- the most program words of a board that the programs serve
 abbrev pub mostProgram : ℕ
@@ -15,6 +16,10 @@ mostProgram = 8192
 -- the record that the sheet's first line names
 unfoldable pub recordOf : (table sheet : List ℕ) → Device
 recordOf table sheet = foundIn table (firstLine sheet .id) .device
+
+-- its name, as it stands in the table
+unfoldable pub nameOf : (table sheet : List ℕ) → List ℕ
+nameOf table sheet = nameAt table (foundIn table (firstLine sheet .id))
 
 -- 15, 14 for the first line, 16, 17
 unfoldable pub openNumber : (table sheet : List ℕ) → ℕ
@@ -25,12 +30,11 @@ openNumber table sheet =
     (unless (leb (recordOf table sheet .words) mostProgram) 17
     0)))
 
--- and then 14 for the rest
+-- and then 14 for the rest, 18, 19
 unfoldable pub boardNumber : (table sheet : List ℕ) → ℕ
 boardNumber table sheet =
     unless (eqb (openNumber table sheet) 0) (openNumber table sheet)
-    (unless (sheetOk (recordOf table sheet) sheet) 14
-    0)
+    (sheetNumber (recordOf table sheet) (nameOf table sheet) sheet)
 
 -- the reading of a sheet
 unfoldable pub boardReading : (table sheet : List ℕ) → List ℕ

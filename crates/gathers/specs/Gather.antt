@@ -8,7 +8,8 @@ use Rattle.words.specs.Lists.{build}
 use Rattle.numerals.specs.Text.{lf}
 use Rattle.numerals.specs.Hex.{capitalOf, wordBy, wordText}
 use Rattle.device.specs.Memory.{readingTail, readingOk}
-use Rattle.sheet.specs.Sheet.{sheetWith, sameText, firstLine}
+use Rattle.sheet.specs.FirstLine.{sameText, firstLine}
+use Rattle.sheet.specs.Sheet.{sheetWith}
 use Rattle.print.specs.Print.{refusedText}
 use Rattle.board.specs.Open.{recordOf, openNumber}
 

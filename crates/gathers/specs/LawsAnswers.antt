@@ -18,9 +18,8 @@ use Rattle.numerals.specs.Hex.{capitalOf, wordBy, wordText}
 use Rattle.numerals.specs.LawsHex.{length-word-text}
 use Rattle.device.specs.Memory.{readingTail, readingOk}
 use Rattle.device.specs.LawsMemory.{reading-long, reading-each}
-use Rattle.sheet.specs.Sheet.{sameText}
-use Rattle.sheet.specs.LawsSheet.{same-self, same-equal}
-use Rattle.sheet.specs.LawsStands.{Stands, stands-join, stands-left, stands-right, byte-stands, stands-next, stands-cons, stands-self, stands-whole, stands-word, word-stands}
+use Rattle.sheet.specs.FirstLine.{sameText}
+use Rattle.sheet.specs.LawsStands.{same-self, same-equal, Stands, stands-join, stands-left, stands-right, byte-stands, stands-next, stands-cons, stands-self, stands-whole, stands-word, word-stands}
 use Rattle.gathers.specs.Gather.{answerText, answersIn, answersOk}
 
 -- ---- the tests, in the order of the text

@@ -11,8 +11,9 @@ use borrow.Author.Tests.{eq-eqb, ne-eqb}
 use Rattle.words.specs.LawsChoice.{pick-true, pick-false}
 use Rattle.device.specs.declared.Device.{Device}
 use Rattle.sheet.specs.declared.Line1.{Line1}
-use Rattle.sheet.specs.Sheet.{sheetWith, firstLine}
-use Rattle.sheet.specs.LawsSheet.{length-with}
+use Rattle.sheet.specs.FirstLine.{firstLine}
+use Rattle.sheet.specs.Sheet.{sheetWith}
+use Rattle.sheetwrite.specs.LawsWrite.{length-with}
 use Rattle.print.specs.Print.{refusedText}
 use Rattle.print.specs.LawsLines.{either-short}
 use Rattle.board.specs.Open.{recordOf, openNumber}

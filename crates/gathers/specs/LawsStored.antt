@@ -14,8 +14,9 @@ use Rattle.device.specs.declared.Device.{Device}
 use Rattle.device.specs.Record.{deviceUpTo}
 use Rattle.device.specs.Memory.{readingTail, readingOk}
 use Rattle.device.specs.LawsMemory.{reading-each}
-use Rattle.sheet.specs.declared.Written.{Written}
-use Rattle.sheet.specs.Sheet.{sheetWith, written, writtenText}
+use Rattle.sheetwrite.specs.declared.Written.{Written}
+use Rattle.sheet.specs.Sheet.{sheetWith}
+use Rattle.sheetwrite.specs.Write.{written, writtenText}
 use Rattle.device.specs.LawsId.{withId}
 use Rattle.board.specs.Open.{mostProgram}
 use Rattle.board.specs.LawsWritten.{sheet-whole}

@@ -12,7 +12,7 @@ use Rattle.target.specs.LawsStream.{length-bytes}
 use Rattle.device.specs.declared.Device.{Device}
 use Rattle.device.specs.Record.{deviceUpTo}
 use Rattle.sheet.specs.Sheet.{sheetWith}
-use Rattle.sheet.specs.LawsSheet.{length-with}
+use Rattle.sheetwrite.specs.LawsWrite.{length-with}
 use Rattle.print.specs.LawsLines.{either-short}
 use Rattle.board.specs.Open.{mostProgram, recordOf, openNumber, boardNumber}
 use Rattle.board.specs.LawsOpen.{served-sheet, opened-served}

@@ -27,7 +27,7 @@ use Rattle.plan.specs.Answers.{updateNumber, freshNumber, Plans}
 use Rattle.plan.specs.Demands.{programmed}
 use Rattle.plan.specs.LawsPlanBounds.{update-bound, fresh-bound}
 use Rattle.sheet.specs.declared.Line1.{Line1}
-use Rattle.sheet.specs.Sheet.{firstLine}
+use Rattle.sheet.specs.FirstLine.{firstLine}
 use Rattle.print.specs.Print.{refusedText}
 use Rattle.board.specs.Open.{mostProgram, recordOf, boardNumber, boardReading}
 use Rattle.board.specs.LawsOpen.{served-sound, served-most}

@@ -6,7 +6,8 @@ use lib.ListN.{getD}
 use Rattle.words.specs.Choice.{unless}
 use Rattle.device.specs.declared.Device.{Device}
 use Rattle.device.specs.Memory.{deviceId}
-use Rattle.sheet.specs.Sheet.{sheetWith, firstLine}
+use Rattle.sheet.specs.FirstLine.{firstLine}
+use Rattle.sheet.specs.Sheet.{sheetWith}
 use Rattle.plan.specs.Answers.{updateNumber, freshNumber}
 use Rattle.plan.specs.Demands.{programmed}
 use Rattle.print.specs.Print.{refusedText}

@@ -6,7 +6,8 @@ use mathlib.Core.List.{List}
 use borrow.Author.Tests.{eq-eqb}
 use Rattle.words.specs.Choice.{pick}
 use Rattle.device.specs.Memory.{readingOk}
-use Rattle.sheet.specs.Sheet.{sheetWith, firstLine}
+use Rattle.sheet.specs.FirstLine.{firstLine}
+use Rattle.sheet.specs.Sheet.{sheetWith}
 use Rattle.board.specs.Open.{recordOf, openNumber}
 use Rattle.gathers.specs.LawsAnswers.{answers-read}
 use Rattle.gathers.specs.Gather.{answerText, gatherNumber, gatherText}

@@ -16,7 +16,8 @@ use Rattle.device.specs.declared.Device.{Device}
 use Rattle.device.specs.Record.{deviceUpTo}
 use Rattle.device.specs.Memory.{readingTail, cpWord, protected}
 use Rattle.device.specs.LawsMemory.{protected-same}
-use Rattle.sheet.specs.Sheet.{sheetWith, firstLine, sheetOk}
+use Rattle.sheet.specs.FirstLine.{firstLine}
+use Rattle.sheet.specs.Sheet.{sheetWith, sheetOk}
 use Rattle.sheet.specs.LawsSheet.{read-written}
 use Rattle.target.specs.declared.Order.the-variants.{LoadConfiguration}
 use Rattle.target.specs.declared.Registers.{Registers}

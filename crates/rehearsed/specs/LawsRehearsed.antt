@@ -11,8 +11,9 @@ use Rattle.words.specs.LawsChoice.{pick-true}
 use Rattle.device.specs.declared.Device.{Device}
 use Rattle.device.specs.Memory.{readingTail, deviceId, programmable}
 use Rattle.device.specs.LawsMemory.{reading-each}
-use Rattle.sheet.specs.Sheet.{sheetWith, firstLine}
-use Rattle.sheet.specs.LawsRead.{id-small}
+use Rattle.sheet.specs.FirstLine.{firstLine}
+use Rattle.sheet.specs.Sheet.{sheetWith}
+use Rattle.sheet.specs.LawsFirstLine.{id-small}
 use Rattle.target.specs.declared.Order.{Order}
 use Rattle.target.specs.Chip.{chipOf}
 use Rattle.target.specs.Step.{soundCells}

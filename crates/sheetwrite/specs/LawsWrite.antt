@@ -154,13 +154,21 @@ with-new d id name l = refl
 
 -- ---- lengths
 
+pub length-with : (id : ℕ) (d : Device) (l : List ℕ) → length (sheetWith id d l) ≡ sheetLength d
+unfolding sheetWith sheetLength
+length-with id d l = rw (length-append, length-old, length-body)
+
 pub length-sheet : (d : Device) (l : List ℕ) → length (sheetText d l) ≡ sheetLength d
-unfolding sheetText sheetWith sheetLength
-length-sheet d l = rw (length-append, length-old, length-body)
+unfolding sheetText
+length-sheet d l = length-with (d .id) d l
+
+pub length-new-with : (id : ℕ) (name : List ℕ) (sum : ℕ) (d : Device) (l : List ℕ) → length (newWith id name sum d l) ≡ newLength d name
+unfolding newWith newLength
+length-new-with id name sum d l = rw (length-append, length-new, length-body)
 
 pub length-new-sheet : (d : Device) (name l : List ℕ) → length (newText d name l) ≡ newLength d name
-unfolding newText newWith newLength
-length-new-sheet d name l = rw (length-append, length-new, length-body)
+unfolding newText
+length-new-sheet d name l = length-new-with (d .id) name (checksumOf d l) d l
 
 -- ---- the answers of the writer in the old form
 

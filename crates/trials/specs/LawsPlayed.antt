@@ -17,7 +17,7 @@ use Rattle.device.specs.declared.Device.{Device}
 use Rattle.device.specs.Record.{deviceUpTo}
 use Rattle.device.specs.Memory.{cellsTail, readingTail, readingOk}
 use Rattle.sheet.specs.Sheet.{sheetWith}
-use Rattle.sheet.specs.LawsSheet.{length-with}
+use Rattle.sheetwrite.specs.LawsWrite.{length-with}
 use Rattle.target.specs.declared.Ran.{Ran}
 use Rattle.target.specs.Chip.{chipOf}
 use Rattle.target.specs.Model.{Run}

@@ -12,7 +12,7 @@ use Rattle.words.specs.LawsChoice.{pick-true, pick-false}
 use Rattle.device.specs.declared.Device.{Device}
 use Rattle.device.specs.Memory.{readingTail}
 use Rattle.device.specs.Record.{deviceUpTo}
-use Rattle.sheet.specs.Sheet.{firstLine}
+use Rattle.sheet.specs.FirstLine.{firstLine}
 use Rattle.sheet.specs.declared.Line1.{Line1}
 use Rattle.print.specs.Print.{refusedText}
 use Rattle.print.specs.LawsLines.{refused-short, either-short}

@@ -10,7 +10,8 @@ use Rattle.numerals.specs.Text.{tab, lf, split}
 use Rattle.numerals.specs.Hex.{capitalOf, byteBy, wordBy}
 use Rattle.device.specs.declared.Device.{Device}
 use Rattle.device.specs.Memory.{readingTail}
-use Rattle.sheet.specs.Sheet.{sheetWith, firstLine}
+use Rattle.sheet.specs.FirstLine.{firstLine}
+use Rattle.sheet.specs.Sheet.{sheetWith}
 use Rattle.target.specs.Model.{Run}
 use Rattle.target.specs.Step.{Target}
 use Rattle.target.specs.Run.{ran}

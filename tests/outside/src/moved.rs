@@ -636,10 +636,31 @@ fn table_name_cases() -> Vec<Case> {
     all
 }
 
+/// A blank board under other masks: 16 times 3FFFh, 00FFh and 0FF0h are 10DFh.
+fn mask_cases() -> Vec<Case> {
+    let odd = Device {
+        mask1: 0x00FF,
+        mask2: 0x0FF0,
+        ..TINY
+    };
+    let table = b"ODD\t2A00\t16\t8\t00FF\t0FF0\n";
+    let (old, new) = (tiny("2A00"), tiny("2A00\tODD\t10DF"));
+    let mut fields = device_fields(&odd);
+    fields.extend([b"ODD".to_vec().into(), words_of(&old).into()]);
+    let mut all = written_cases(&fields, &new);
+    all.extend([
+        move_case("other masks", "sheet.to_new", table, &old, Ok(&new)),
+        move_case("other masks", "sheet.to_old", table, &new, Ok(&old)),
+        read_case("other masks", &odd, b"ODD", &new, 0),
+        read_case("other masks", &TINY, b"ODD", &new, 19),
+    ]);
+    all
+}
+
 /// Sums of every digit: a protected board whose configuration words are 0000 has its IDs' nibbles for a sum.
 fn sum_cases() -> Vec<Case> {
     let table = table();
-    let mut all = Vec::new();
+    let mut all = mask_cases();
     let sums = [
         "0000", "0001", "0123", "4567", "89AB", "CDEF", "FEDC", "8000", "FFFF",
     ];

@@ -20,7 +20,7 @@ slice-relend-prefix-read-sheet : tie.Need-slice-relend-prefix-read-sheet
 slice-relend-prefix-read-sheet c = search needs
 
 slice-aggregate-read-sheet : tie.Need-slice-aggregate-read-sheet
-slice-aggregate-read-sheet c = sym (length-take-le _ _ (c .before .before .before .before .pre))
+slice-aggregate-read-sheet c = sym (length-take-le _ _ (c .before .before .before .before .before .pre))
 
 read-sheet-requires : tie.Need-read-sheet-requires
 read-sheet-requires c κs = search needs
@@ -32,8 +32,8 @@ returns : tie.Need-returns
 returns c = (
   c .before .before .read-sheet .ensures .0,
   ap
-      (λ x. x ++ drop (c .before .before .before .before .before .before .before .args .d .words + readingTail)
-      (now (c .before .before .before .before .before .before .before .args .words))) (c .before .before .read-sheet .ensures .1),
+      (λ x. x ++ drop (c .before .before .before .before .before .before .before .before .args .d .words + readingTail)
+      (now (c .before .before .before .before .before .before .before .before .args .words))) (c .before .before .read-sheet .ensures .1),
 )
 
 pub read-front-spec : {M : Type 1} → statement M

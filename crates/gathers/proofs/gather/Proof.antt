@@ -2,7 +2,7 @@
 use mathlib.Core.Path.{sym, _∙_}
 use native.Mathlib.Omega.{arith}
 use Rattle.print.specs.LawsPrint.{prints-as, printed}
-use Rattle.sheet.specs.LawsRead.{first-small}
+use Rattle.sheet.specs.LawsFirstLine.{first-small}
 use Rattle.board.specs.LawsOpen.{opened-serves, opened-most}
 use Rattle.gathers.specs.LawsGather.{gather-refused, gather-21, gather-found, gather-short}
 use borrow.Author.Needs.{needs}

@@ -6,7 +6,7 @@ use lib.ListN.{length-replicate}
 use lib.Seq.{length-take-le}
 use Rattle.board.specs.LawsOpen.{served-most}
 use Rattle.board.specs.LawsBoard.{served-room, served-long}
-use Rattle.sheet.specs.LawsWrite.{written-short}
+use Rattle.sheetwrite.specs.LawsWrite.{written-short}
 use Rattle.print.specs.LawsPrint.{prints-as}
 use Rattle.gathers.specs.LawsAnswers.{answers-sound}
 use Rattle.gathers.specs.LawsStored.{front-room, front-part, sheet-front}

@@ -4,7 +4,7 @@ use mathlib.Core.Path.{sym}
 use lib.ListN.{length-replicate}
 use lib.Seq.{length-take-le}
 use Rattle.print.specs.LawsPrint.{prints-as, printed}
-use Rattle.sheet.specs.LawsRead.{first-small}
+use Rattle.sheet.specs.LawsFirstLine.{first-small}
 use Rattle.board.specs.LawsBoard.{board-opened}
 use Rattle.trials.specs.LawsTrial.{trial-refused, trial-34, trial-run, trial-short}
 use borrow.Author.Needs.{needs}

@@ -1,7 +1,7 @@
 -- The board is refused, or the HEX file, or both are planned for.
 use mathlib.Core.Path.{sym}
 use Rattle.print.specs.LawsPrint.{prints-as}
-use Rattle.sheet.specs.LawsRead.{first-small}
+use Rattle.sheet.specs.LawsFirstLine.{first-small}
 use Rattle.board.specs.LawsBoard.{board-opened, other-room, other-long}
 use Rattle.listings.specs.LawsPlans.{program-refused, program-long, program-hex, program-within, program-front, program-found}
 use borrow.Author.Needs.{needs}
