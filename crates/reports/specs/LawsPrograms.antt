@@ -14,7 +14,8 @@ use Rattle.words.specs.Address.{configBase, addressOf}
 use Rattle.words.specs.First.{firstTo}
 use Rattle.device.specs.declared.Device.{Device}
 use Rattle.device.specs.Memory.{readingTail, protected}
-use Rattle.sheet.specs.Sheet.{sheetOk, wordsIn, readNumber, readBuffer}
+use Rattle.table.specs.Table.{nameOk}
+use Rattle.sheet.specs.Sheet.{sheetOk, sheetNumber, wordsIn, readNumber, readBuffer}
 use Rattle.sheet.specs.LawsSheet.{length-words, read-sound}
 use Rattle.judge.specs.declared.Sum.{Sum}
 use Rattle.judge.specs.declared.Verdict.{Verdict}
@@ -26,9 +27,9 @@ use Rattle.judge.specs.LawsCount.{count-le}
 use Rattle.judge.specs.LawsVerify.{verified-judged}
 use Rattle.print.specs.Print.{refusedText, sumText, verdictText}
 use Rattle.print.specs.LawsLines.{either-short, sum-short, verdict-short}
-use Rattle.board.specs.Open.{mostProgram, recordOf, boardNumber, boardReading}
-use Rattle.board.specs.LawsOpen.{sheet-bad, sheet-good, sheet-words}
-use Rattle.board.specs.LawsBoard.{mostReading, Board, board-told, board-text}
+use Rattle.board.specs.Open.{mostProgram, recordOf, nameOf, boardNumber, boardReading}
+use Rattle.board.specs.LawsOpen.{read-number, sheet-good, sheet-words}
+use Rattle.board.specs.LawsBoard.{mostReading, Board, board-named, board-told, board-text}
 use Rattle.reports.specs.Programs.{checksumText, verdictLine, verifyNumber, verifyText}
 
 -- ---- checksum
@@ -63,27 +64,28 @@ module _ (table sheet wanted : List ℕ) (number : ℕ) (e : number ≡ boardNum
       same : verifyNumber table sheet wanted ≡ number
       same = unfold verifyNumber in pick-false _ _ _ (ne-eqb (boardNumber table sheet) 0 (λ z. n (e ∙ z))) ∙ sym e
 
-  -- the wanted sheet is read under the board's record, into a buffer of its length
-  module _ (z : number ≡ 0) (d : Device) (reading : List ℕ) (b : Board table sheet d reading) (buffer : List ℕ) (long : length buffer ≡ d .words + readingTail)
-      (n : ℕ) (f : n ≡ readNumber d wanted buffer) where
-    judged-is : verifyNumber table sheet wanted ≡ pick (sheetOk d wanted) 0 14
+  -- the wanted sheet is read under the board's record and name, into a buffer of its length
+  module _ (z : number ≡ 0) (d : Device) (reading : List ℕ) (b : Board table sheet d reading) (name : List ℕ) (cut : name ≡ nameOf table sheet)
+      (buffer : List ℕ) (long : length buffer ≡ d .words + readingTail) (n : ℕ) (f : n ≡ readNumber d name wanted buffer) where
+    named : nameOk name ≡ true
+    named = ap nameOk cut ∙ board-named table sheet (sym e ∙ z)
+
+    judged-is : verifyNumber table sheet wanted ≡ n
     unfolding verifyNumber
     judged-is =
         pick-true _ _ _ (eq-eqb (boardNumber table sheet) 0 (sym e ∙ z))
-        ∙ ap (λ x. pick (sheetOk x wanted) 0 14) (sym (b .record-is))
+        ∙ ((λ i. sheetNumber (sym (b .record-is) i) (sym cut i) wanted) ∙ sym (read-number d (b .sound) name named wanted buffer long n f))
 
-    pub verify-unwanted : (n ≡ 0 → ⊥) → refusedText 14 0 0 ≡ verifyText table sheet wanted
+    pub verify-unwanted : (n ≡ 0 → ⊥) → refusedText n 0 0 ≡ verifyText table sheet wanted
     unfolding verifyText
-    verify-unwanted h =
-        let bad : verifyNumber table sheet wanted ≡ 14 = judged-is ∙ pick-false _ _ _ (sheet-bad d (b .sound) wanted buffer long n f h) in
-        ap (λ k. refusedText k 0 0) (sym bad) ∙ sym (pick-false _ _ _ (ne-eqb (verifyNumber table sheet wanted) 0 (λ y. omega arith)))
+    verify-unwanted h = ap (λ k. refusedText k 0 0) (sym judged-is) ∙ sym (pick-false _ _ _ (ne-eqb (verifyNumber table sheet wanted) 0 (λ y. h (sym judged-is ∙ y))))
 
-    module _ (y : n ≡ 0) (words : List ℕ) (w : words ≡ readBuffer d wanted buffer) (rest : List ℕ) where
+    module _ (y : n ≡ 0) (words : List ℕ) (w : words ≡ readBuffer d name wanted buffer) (rest : List ℕ) where
       good : sheetOk d wanted ≡ true
-      good = sheet-good d (b .sound) wanted buffer long n f y
+      good = sheet-good d (b .sound) name named wanted buffer long n f y
 
       these : words ≡ wordsIn (d .words) wanted
-      these = sheet-words d (b .sound) wanted buffer long n f y words w
+      these = sheet-words d (b .sound) name named wanted buffer long n f y words w
 
       count : length words ≡ d .words + readingTail
       count = ap length these ∙ length-words (d .words) wanted
@@ -109,7 +111,7 @@ module _ (table sheet wanted : List ℕ) (number : ℕ) (e : number ≡ boardNum
             ap verdictLine verdict-is
             ∙ (ap (λ l. verdictLine (verdictOf d (wordsIn (d .words) wanted) l)) (b .front)
             ∙ (ap (λ x. verdictLine (verdictOf x (wordsIn (x .words) wanted) (boardReading table sheet))) (b .record-is)
-            ∙ sym (pick-true _ _ _ (eq-eqb (verifyNumber table sheet wanted) 0 (judged-is ∙ pick-true _ _ _ good)))))
+            ∙ sym (pick-true _ _ _ (eq-eqb (verifyNumber table sheet wanted) 0 (judged-is ∙ y)))))
 
         -- the count fits a number that is printed
         pub verify-count : v .count ≤ mostReading

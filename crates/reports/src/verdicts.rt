@@ -16,8 +16,11 @@ pub fn verify(table: &[u8], sheet: &[u8], wanted: &[u8], out: &mut [u8]) -> usiz
     let device = opened.device;
     let count = (device.words as usize) + READING_TAIL;
     let mut aim = [0u16; board::MOST_READING];
-    if sheet::read_sheet(device, wanted, &mut aim[..count]) != 0 {
-        return print::refusal(out, 14, 0, 0);
+    let at = opened.name_at;
+    let end = at + opened.name_len;
+    let number = sheet::read_sheet(device, &table[at..end], wanted, &mut aim[..count]);
+    if number != 0 {
+        return print::refusal(out, number, 0, 0);
     }
     let verdict = judge::verify(device, &aim[..count], &reading[..count]);
     let address = verdict.address;
