@@ -16,9 +16,9 @@ use Rattle.device.specs.declared.Device.{Device}
 use Rattle.device.specs.Record.{deviceUpTo}
 use Rattle.device.specs.Memory.{readingTail, cpWord, protected}
 use Rattle.device.specs.LawsMemory.{protected-same}
-use Rattle.sheet.specs.FirstLine.{firstLine}
+use Rattle.sheet.specs.FirstLine.{isNew, firstLine}
 use Rattle.sheet.specs.Sheet.{sheetWith, sheetOk}
-use Rattle.sheet.specs.LawsSheet.{read-written}
+use Rattle.sheet.specs.LawsSheet.{read-written, taken}
 use Rattle.target.specs.declared.Order.the-variants.{LoadConfiguration}
 use Rattle.target.specs.declared.Registers.{Registers}
 use Rattle.target.specs.Chip.{chipOf}
@@ -31,7 +31,7 @@ use Rattle.target.specs.LawsStream.{FitsAll, fits-append, length-bytes}
 use Rattle.plan.specs.Steps.{reads, readSteps, readBackSteps}
 use Rattle.plan.specs.Demands.{readingOf}
 use Rattle.plan.specs.LawsReadBack.{at, read-back-answers}
-use Rattle.board.specs.Open.{mostProgram, recordOf, openNumber, boardNumber, boardReading}
+use Rattle.board.specs.Open.{nameOf, mostProgram, recordOf, openNumber, boardNumber, boardReading}
 use Rattle.board.specs.LawsOpen.{opened-sound, served-most, opened-id}
 use Rattle.board.specs.LawsBoard.{board-refused, board-found, board-served}
 use Rattle.listings.specs.Streams.{streamText, readbackText, updateText}
@@ -143,26 +143,22 @@ module _ (table sheet : List ℕ) (z : boardNumber table sheet ≡ 0) where
   opens = by-eq (openNumber table sheet) 0 (λ e. e) (λ n. sym (board-refused table sheet n) ∙ z)
 
   sheet-sound : sheetOk (recordOf table sheet) sheet ≡ true
-  sheet-sound = by (sheetOk (recordOf table sheet) sheet) (sym (board-found table sheet opens) ∙ z)
-    where
-      by : (b : Bool) → pick {A = ℕ} b 0 14 ≡ 0 → b ≡ true
-      by true q = refl
-      by false q = absurd (unfold pick in omega (arith, q))
+  sheet-sound = taken (recordOf table sheet) (nameOf table sheet) sheet (sym (board-found table sheet opens) ∙ z) .ok
 
   abbrev reading : List ℕ
   reading = boardReading table sheet
 
-  sheet-again : sheetWith (firstLine sheet .id) (recordOf table sheet) (take (recordOf table sheet .words + readingTail) (cellsOf reading)) ≡ sheet
-  sheet-again =
+  sheet-again : isNew sheet ≡ false → sheetWith (firstLine sheet .id) (recordOf table sheet) (take (recordOf table sheet .words + readingTail) (cellsOf reading)) ≡ sheet
+  sheet-again old =
       (λ i. sheetWith (opened-id table sheet opens i) (recordOf table sheet) (first-front table sheet z i))
-      ∙ (unfold boardReading in read-written (recordOf table sheet) sheet sheet-sound)
+      ∙ (unfold boardReading in read-written (recordOf table sheet) sheet sheet-sound old)
 
-  -- what readback prints, played on the cells that trial makes of this sheet, is gathered to this very sheet, unless the board is protected
-  pub gathered-again : protected (recordOf table sheet .words) reading ≡ false
+  -- what readback prints, played on the cells that trial makes of this sheet, is gathered to this very sheet if it is in the old form, unless the board is protected
+  pub gathered-again : isNew sheet ≡ false → protected (recordOf table sheet .words) reading ≡ false
       → gatherText table sheet (wordsText (recordOf table sheet) (readbackText table sheet) (cellsOf reading) mostSteps (replicate mostSteps 0)) ≡ sheet
-  gathered-again bare =
+  gathered-again old bare =
       gathered table sheet (stream-printed table sheet opens) (cellsOf reading) (first-sound table sheet z) same mostSteps enough (replicate mostSteps 0) room
-      ∙ sheet-again
+      ∙ sheet-again old
     where
       served : deviceUpTo mostProgram (recordOf table sheet) ≡ true
       served = board-served table sheet z

@@ -12,6 +12,7 @@ use Rattle.words.specs.LawsChoice.{pick-true, pick-false, true-not-false}
 use Rattle.numerals.specs.Hex.{digitText, byteText, wordText}
 use Rattle.numerals.specs.LawsHex.{digit-text-low, digit-text-high}
 use Rattle.device.specs.declared.Device.{Device}
+use Rattle.sheet.specs.FirstLine.{oldLine}
 use Rattle.sheet.specs.Sheet.{sheetWith}
 use Rattle.target.specs.declared.Order.{Order}
 use Rattle.target.specs.declared.Order.the-variants.{LoadConfiguration, LoadData, Read, Increment, ResetAddress, Begin, BulkErase, RowErase}
@@ -53,7 +54,7 @@ digit-told n h = ne-eqb (digitText n) 0x72 (λ e. by e (decLt n 10))
     by e (no p) = let t : digitText n ≡ 0x41 + (n - 10) = digit-text-high n (omega arith) in omega arith
 
 pub sheet-told : (id : ℕ) (d : Device) → id < 0x4000 → (reading : List ℕ) → isRefusal (sheetWith id d reading) ≡ false
-unfolding isRefusal sheetWith wordText byteText
+unfolding isRefusal sheetWith oldLine wordText byteText
 sheet-told id d small reading = digit-told (id / 256 / 16) (omega arith)
 
 -- ---- a text, or a refusal

@@ -217,6 +217,15 @@ module _ (d : Device) (name t : List ℕ) where
     unfolding sumHolds
     new-sum = pick-true (isNew t) _ _ y
 
+-- what is taken in the new form is written back with line 1's ID, this name and the checksum of its words
+pub taken-written : (d : Device) (name t : List ℕ) → sheetNumber d name t ≡ 0 → isNew t ≡ true
+    → newWith (idIn t) name (checksumOf d (wordsIn (d .words) t)) d (wordsIn (d .words) t) ≡ t
+taken-written d name t z y =
+    let k : Taken d name t = taken d name t z in
+    let named : nameIn t ≡ name = same-equal (nameIn t) name (sym (new-name d name t y) ∙ k .named) in
+    let summed : sumIn t ≡ checksumOf d (wordsIn (d .words) t) = eqb-true _ _ (sym (new-sum d name t y) ∙ k .summed) in
+    (λ i. newWith (idIn t) (sym named i) (sym summed i) d (wordsIn (d .words) t)) ∙ new-read-written d t (k .ok) y
+
 pub sum-small : (d : Device) (l : List ℕ) → checksumOf d l < 65536
 unfolding checksumOf
 sum-small d l = omega arith
