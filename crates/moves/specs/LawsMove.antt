@@ -2,7 +2,7 @@
 use Prim.Native.Nat.{ℕ, _+_, _≤_, _<_}
 use native.Mathlib.Nat.{zero-add}
 use native.Mathlib.Omega.{arith}
-use mathlib.Core.Path.{_≡_, refl, sym, ap, _∙_}
+use mathlib.Core.Path.{_≡_, refl, sym, ap, subst, _∙_}
 use mathlib.Core.Bool.{Bool, true, false}
 use mathlib.Core.Logic.{inl, inr}
 use mathlib.Core.List.{List, _++_}
@@ -44,7 +44,7 @@ module _ (table text : List ℕ) where
   unfolding openNumber foundNumber
   lifted-is = by (tableOk table) (eqb (firstLine text .number) 0) (hasId (firstLine text .id) (tableLines table)) (leb (recordOf table text .words) mostProgram)
     where
-      by : (t f h w : Bool) → pick (eqb (pick {A = ℕ} t (pick f (pick h (pick w 0 17) 16) 14) 15) 17) 0 (pick t (pick f (pick h (pick w 0 17) 16) 14) 15) ≡ pick t (pick f (pick h 0 16) 14) 15
+      by : (t f h w : Bool) → _≡_ {A = ℕ} (pick (eqb (pick t (pick f (pick h (pick w 0 17) 16) 14) 15) 17) 0 (pick t (pick f (pick h (pick w 0 17) 16) 14) 15)) (pick t (pick f (pick h 0 16) 14) 15)
       by true true true true = unfold pick in refl
       by true true true false = unfold pick in refl
       by true true false w = unfold pick in refl
@@ -74,7 +74,7 @@ module _ (table text : List ℕ) where
       by false f h q = absurd (unfold pick in omega (arith, q))
 
   -- a sheet that is not refused was found
-  move-there : moveNumber table text ≡ 0 → foundNumber table text ≡ 0
+  pub move-there : moveNumber table text ≡ 0 → foundNumber table text ≡ 0
   move-there z = by-eq (foundNumber table text) 0 (λ e. e) (λ n. sym (move-refused n) ∙ z)
 
 -- what was found: table and line 1 are sound, and so are the record and the name that they give
@@ -175,31 +175,54 @@ module _ (table text : List ℕ) (z : moveNumber table text ≡ 0) where
     pub new-again : newOf table other ≡ newOf table text
     pub old-again : oldOf table other ≡ oldOf table text
 
+  module _ (other : List ℕ) (first-too : firstLine other .id ≡ firstLine text .id) (device-too : recordOf table other ≡ d) (name-too : nameOf table other ≡ name) where
+    words-of : wordsIn (d .words) other ≡ words → boardReading table other ≡ words
+    unfolding boardReading
+    words-of same = ap (λ x. wordsIn (x .words) other) device-too ∙ same
+
+    module _ (words-too : boardReading table other ≡ words) where
+      new-of : newOf table other ≡ newOf table text
+      unfolding newOf
+      new-of = λ i. newWith (first-too i) (name-too i) (checksumOf (device-too i) (words-too i)) (device-too i) (words-too i)
+
+      old-of : oldOf table other ≡ oldOf table text
+      unfolding oldOf
+      old-of = λ i. sheetWith (first-too i) (device-too i) (words-too i)
+
   back-of : (other : List ℕ) → lineOk other ≡ true → idIn other ≡ firstLine text .id → wordsIn (d .words) other ≡ words → sheetNumber d name other ≡ 0 → Back other
   back-of other line id same n =
       let first-too : firstLine other .id ≡ firstLine text .id = same-id other line id in
       let device-too : recordOf table other ≡ d = same-record other line id in
       let name-too : nameOf table other ≡ name = same-name other line id in
-      let words-too : boardReading table other ≡ words = (unfold boardReading in ap (λ x. wordsIn (x .words) other) device-too ∙ same) in
+      let words-too : boardReading table other ≡ words = words-of other first-too device-too name-too same in
       record {
         not-refused = same-number other line id n;
         words-stay = words-too;
-        new-again = (unfold newOf in λ i. newWith (first-too i) (name-too i) (checksumOf (device-too i) (words-too i)) (device-too i) (words-too i));
-        old-again = (unfold oldOf in λ i. sheetWith (first-too i) (device-too i) (words-too i));
+        new-again = new-of other first-too device-too name-too words-too;
+        old-again = old-of other first-too device-too name-too words-too;
       }
 
+  new-read : ReadNew (firstLine text .id) name (checksumOf d words) d words (newOf table text)
+  unfolding newOf
+  new-read = new-written-read d (f .sound) (firstLine text .id) move-fits words move-words name (f .named) (checksumOf d words) (sum-small d words)
+
+  new-taken : sheetNumber d name (newOf table text) ≡ 0
+  unfolding newOf
+  new-taken = new-exactly d (f .sound) name (f .named) (newOf table text) .1 (inr (firstLine text .id, move-fits, words, move-words, checksumOf d words, sum-small d words, refl, refl))
+
+  old-read : ReadOld (firstLine text .id) d words (oldOf table text)
+  unfolding oldOf
+  old-read = written-read d (f .sound) (firstLine text .id) move-fits words move-words
+
+  old-taken : sheetNumber d name (oldOf table text) ≡ 0
+  unfolding oldOf
+  old-taken = new-exactly d (f .sound) name (f .named) (oldOf table text) .1 (inl (firstLine text .id, move-fits, words, move-words, refl))
+
   pub new-back : Back (newOf table text)
-  new-back =
-      let r : ReadNew (firstLine text .id) name (checksumOf d words) d words (newOf table text) =
-      (unfold newOf in new-written-read d (f .sound) (firstLine text .id) move-fits words move-words name (f .named) (checksumOf d words) (sum-small d words)) in
-      back-of (newOf table text) (read-line-1 d (newOf table text) (r .ok)) (r .id-is) (r .words-are)
-      (new-exactly d (f .sound) name (f .named) (newOf table text) .1 (inr (firstLine text .id, move-fits, words, move-words, checksumOf d words, sum-small d words, refl, unfold newOf in refl)))
+  new-back = back-of (newOf table text) (read-line-1 d (newOf table text) (new-read .ok)) (new-read .id-is) (new-read .words-are) new-taken
 
   pub old-back : Back (oldOf table text)
-  old-back =
-      let r : ReadOld (firstLine text .id) d words (oldOf table text) = (unfold oldOf in written-read d (f .sound) (firstLine text .id) move-fits words move-words) in
-      back-of (oldOf table text) (read-line-1 d (oldOf table text) (r .ok)) (r .id-is) (r .words-are)
-      (new-exactly d (f .sound) name (f .named) (oldOf table text) .1 (inl (firstLine text .id, move-fits, words, move-words, unfold oldOf in refl)))
+  old-back = back-of (oldOf table text) (read-line-1 d (oldOf table text) (old-read .ok)) (old-read .id-is) (old-read .words-are) old-taken
 
 -- ---- the answers
 
@@ -212,16 +235,17 @@ module _ (number : ℕ) (whole out : List ℕ) where
   unfolding moved movedText
   moved-refused n e h =
       let f : eqb number 0 ≡ false = ne-eqb number 0 (λ z. h (e ∙ z)) in
-      let is : moved number whole out ≡ record { number = number; length = 0 } = (unfold moved in pick-false (eqb number 0) _ _ f) in
-      ((λ i. record { number = e i; length = 0 }) ∙ sym is,
-      sym (pick-false _ _ _ (ap (λ w. eqb (w .number) 0) is ∙ f)))
+      let is : moved number whole out ≡ record { number = number; length = 0 } = pick-false (eqb number 0) _ _ f in (
+        (λ i. record { number = e i; length = 0 }) ∙ sym is,
+        sym (pick-false _ _ _ (ap (λ w. eqb (w .number) 0) is ∙ f)),
+      )
 
   -- a writer that has its record, name and reading answers 26 or the whole text
   pub moved-written : number ≡ 0 → (w : Written) → w ≡ pick (leb (length whole) (length out)) (record { number = 0; length = length whole }) (record { number = 26; length = 0 })
       → (after : List ℕ) → after ≡ pick (eqb (w .number) 0) (sets out 0 whole) out → Moved number whole out w after
-  unfolding movedText
+  unfolding moved movedText
   moved-written z w e after g =
-      let is : w ≡ moved number whole out = e ∙ sym (unfold moved in pick-true (eqb number 0) _ _ (eq-eqb number 0 z)) in
+      let is : w ≡ moved number whole out = e ∙ sym (pick-true (eqb number 0) _ _ (eq-eqb number 0 z)) in
       (is, g ∙ ap (λ x. pick (eqb (x .number) 0) (sets out 0 whole) out) is)
 
   -- no more is written than there is room for
@@ -280,12 +304,13 @@ module _ (table text out : List ℕ) where
   old-new-old o z new e back room =
       let s : (moveNumber table text ≡ 0) × (length (newOf table text) ≤ length out) = moved-sound (moveNumber table text) (newOf table text) out z in
       let is : new ≡ newOf table text = e ∙ wrote-whole (moveNumber table text) (newOf table text) out z in
-      let b : Back table text (s .0) new = rw (sym is) at (new-back table text (s .0)) in
+      let b : Back table text (s .0) new = subst (λ x. Back table text (s .0) x) (sym is) (new-back table text (s .0)) in
       let same : oldOf table new ≡ text = b .old-again ∙ old-same table text (s .0) o in
-      let fits-in : length (oldOf table new) ≤ length back = rw same room in
-      (moved-is (moveNumber table new) (oldOf table new) back (b .not-refused) fits-in ∙ (λ i. record { number = 0; length = length (same i) }),
-      ap (λ l. take (length l) (movedText (moveNumber table new) (oldOf table new) back)) (sym same) ∙ (moved-front (moveNumber table new) (oldOf table new) back (b .not-refused) fits-in ∙ same),
-      b .words-stay)
+      let fits-in : length (oldOf table new) ≤ length back = rw same room in (
+        moved-is (moveNumber table new) (oldOf table new) back (b .not-refused) fits-in ∙ (λ i. record { number = 0; length = length (same i) }),
+        ap (λ l. take (length l) (movedText (moveNumber table new) (oldOf table new) back)) (sym same) ∙ (moved-front (moveNumber table new) (oldOf table new) back (b .not-refused) fits-in ∙ same),
+        b .words-stay,
+      )
 
   -- and a new sheet that to_old does not refuse, likewise
   pub new-old-new : isNew text ≡ true → moved (moveNumber table text) (oldOf table text) out .number ≡ 0
@@ -296,9 +321,10 @@ module _ (table text out : List ℕ) where
   new-old-new y z old e back room =
       let s : (moveNumber table text ≡ 0) × (length (oldOf table text) ≤ length out) = moved-sound (moveNumber table text) (oldOf table text) out z in
       let is : old ≡ oldOf table text = e ∙ wrote-whole (moveNumber table text) (oldOf table text) out z in
-      let b : Back table text (s .0) old = rw (sym is) at (old-back table text (s .0)) in
+      let b : Back table text (s .0) old = subst (λ x. Back table text (s .0) x) (sym is) (old-back table text (s .0)) in
       let same : newOf table old ≡ text = b .new-again ∙ new-same table text (s .0) y in
-      let fits-in : length (newOf table old) ≤ length back = rw same room in
-      (moved-is (moveNumber table old) (newOf table old) back (b .not-refused) fits-in ∙ (λ i. record { number = 0; length = length (same i) }),
-      ap (λ l. take (length l) (movedText (moveNumber table old) (newOf table old) back)) (sym same) ∙ (moved-front (moveNumber table old) (newOf table old) back (b .not-refused) fits-in ∙ same),
-      b .words-stay)
+      let fits-in : length (newOf table old) ≤ length back = rw same room in (
+        moved-is (moveNumber table old) (newOf table old) back (b .not-refused) fits-in ∙ (λ i. record { number = 0; length = length (same i) }),
+        ap (λ l. take (length l) (movedText (moveNumber table old) (newOf table old) back)) (sym same) ∙ (moved-front (moveNumber table old) (newOf table old) back (b .not-refused) fits-in ∙ same),
+        b .words-stay,
+      )

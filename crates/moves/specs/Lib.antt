@@ -3,3 +3,4 @@ pub mod Move
 pub mod Programs
 pub mod LawsMove
 pub mod LawsWords
+pub mod LawsPrograms

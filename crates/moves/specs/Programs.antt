@@ -1,4 +1,5 @@
 -- What the programs newsheet and oldsheet print: the refusals of every program, or the moved sheet.
+use Prim.Native.Nat.{ℕ}
 use mathlib.Core.List.{List}
 use lib.Dec.{eqb}
 use Rattle.words.specs.Choice.{unless}

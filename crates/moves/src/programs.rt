@@ -19,13 +19,13 @@ pub fn newsheet(table: &[u8], sheet: &[u8], out: &mut [u8]) -> usize
     if opened.number != 0 {
         return print::refusal(out, opened.number, 0, 0);
     }
-    let mut text = [0u8; MOST_NEW];
-    let moved = to_new(table, sheet, &mut text);
+    let mut whole = [0u8; MOST_NEW];
+    let moved = to_new(table, sheet, &mut whole);
     if moved.number != 0 {
         return print::refusal(out, moved.number, 0, 0);
     }
     let length = moved.length;
-    print::text(out, &text[..length])
+    print::text(out, &whole[..length])
 }
 
 // Prints a board's sheet in the old form as far as there is room, and answers the length of the whole text.
@@ -36,11 +36,11 @@ pub fn oldsheet(table: &[u8], sheet: &[u8], out: &mut [u8]) -> usize
     if opened.number != 0 {
         return print::refusal(out, opened.number, 0, 0);
     }
-    let mut text = [0u8; MOST_OLD];
-    let moved = to_old(table, sheet, &mut text);
+    let mut whole = [0u8; MOST_OLD];
+    let moved = to_old(table, sheet, &mut whole);
     if moved.number != 0 {
         return print::refusal(out, moved.number, 0, 0);
     }
     let length = moved.length;
-    print::text(out, &text[..length])
+    print::text(out, &whole[..length])
 }

@@ -52,9 +52,10 @@ module _ (d : Device) (sound : deviceOk d ≡ true) (id : ℕ) (good : fits d id
   sheet-of : (t : List ℕ) → lineOk t ≡ true → idIn t ≡ id → restIn t ≡ bodyText (d .words) l → (sheetOk d t ≡ true) × (wordsIn (d .words) t ≡ l)
   unfolding sheetOk wordsIn
   sheet-of t first is rest =
-      let r = body-read (d .words) eighths l ok in
-      (both (lineOk t && fits d (idIn t)) (bodyOk (d .words) (restIn t)) (both (lineOk t) (fits d (idIn t)) first (ap (fits d) is ∙ good)) (ap (bodyOk (d .words)) rest ∙ r .0),
-      ap (bodyWords (d .words)) rest ∙ r .1)
+      let r = body-read (d .words) eighths l ok in (
+        both (lineOk t && fits d (idIn t)) (bodyOk (d .words) (restIn t)) (both (lineOk t) (fits d (idIn t)) first (ap (fits d) is ∙ good)) (ap (bodyOk (d .words)) rest ∙ r .0),
+        ap (bodyWords (d .words)) rest ∙ r .1,
+      )
 
   -- the old form, with an ID that fits
   pub written-read : ReadOld id d l (sheetWith id d l)
@@ -134,7 +135,7 @@ pub sheet-exactly : (d : Device) → deviceOk d ≡ true → (t : List ℕ) → 
 sheet-exactly d sound t = (
   (λ e. (idIn t, read-fits d t (e .0), wordsIn (d .words) t, read-sound d t (e .0), read-written d t (e .0) (e .1))),
   (λ w. let r : ReadOld (w .0) d (w .2) (sheetWith (w .0) d (w .2)) = written-read d sound (w .0) (w .1) (w .2) (w .3) in
-  (ap (sheetOk d) (sym (w .4)) ∙ r .ok, ap isNew (sym (w .4)) ∙ r .form)),
+      (ap (sheetOk d) (sym (w .4)) ∙ r .ok, ap isNew (sym (w .4)) ∙ r .form)),
 )
 
 -- no text has both forms, whatever the records
@@ -233,9 +234,16 @@ sum-small d l = omega arith
 module _ (d : Device) (sound : deviceOk d ≡ true) (name : List ℕ) (named : nameOk name ≡ true) (t : List ℕ) where
   -- what a sheet in the new form gives
   given : (e : sheetOk d t ≡ true) → isNew t ≡ true → (other : List ℕ) → nameIn t ≡ other → (told : List ℕ → ℕ → Type 0) → told (wordsIn (d .words) t) (sumIn t) → NewSheet d other told t
-  given e y other is told says =
-      (idIn t, read-fits d t e, wordsIn (d .words) t, read-sound d t e, sumIn t, new-read-fields d t e y .sum-small, says,
-      ap (λ n. newWith (idIn t) n (sumIn t) d (wordsIn (d .words) t)) (sym is) ∙ new-read-written d t e y)
+  given e y other is told says = (
+    idIn t,
+    read-fits d t e,
+    wordsIn (d .words) t,
+    read-sound d t e,
+    sumIn t,
+    new-read-fields d t e y .sum-small,
+    says,
+    ap (λ n. newWith (idIn t) n (sumIn t) d (wordsIn (d .words) t)) (sym is) ∙ new-read-written d t e y,
+  )
 
   -- and what is read of one
   taken-as : (other : List ℕ) → nameOk other ≡ true → (told : List ℕ → ℕ → Type 0) → (w : NewSheet d other told t) → ReadNew (w .0) other (w .4) d (w .2) t
@@ -278,10 +286,12 @@ module _ (d : Device) (sound : deviceOk d ≡ true) (name : List ℕ) (named : n
       there : sheetNumber d name t ≡ 18 → (other : List ℕ) × (nameOk other ≡ true) × (other ≡ name → ⊥) × NewSheet d other (λ l sum. Unit) t
       there z =
           let k : (sheetOk d t ≡ true) × (nameHolds name t ≡ false) = other-name d name t z in
-          let y : isNew t ≡ true = must (k .1) in
-          (nameIn t, new-read-fields d t (k .0) y .name-ok,
-          (λ e. true-not-false (new-name d name t y ∙ (ap (λ n. sameText n name) e ∙ same-self name)) (k .1)),
-          given (k .0) y (nameIn t) refl (λ l sum. Unit) tt)
+          let y : isNew t ≡ true = must (k .1) in (
+            nameIn t,
+            new-read-fields d t (k .0) y .name-ok,
+            (λ e. true-not-false (new-name d name t y ∙ (ap (λ n. sameText n name) e ∙ same-self name)) (k .1)),
+            given (k .0) y (nameIn t) refl (λ l sum. Unit) tt,
+          )
 
       back : ((other : List ℕ) × (nameOk other ≡ true) × (other ≡ name → ⊥) × NewSheet d other (λ l sum. Unit) t) → sheetNumber d name t ≡ 18
       back w =

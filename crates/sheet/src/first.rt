@@ -92,4 +92,3 @@ pub(crate) fn byte_is(text: &[u8], at: usize, byte: u8) -> bool
     }
     false
 }
-

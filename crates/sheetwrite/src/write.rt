@@ -62,11 +62,20 @@ pub fn write_new_sheet(d: Device, name: &[u8], reading: &[u16], out: &mut [u8]) 
 }
 
 // A record, or a name, that breaks the rules.
-const NO_RECORD: Written = Written { number: 13, length: 0 };
+const NO_RECORD: Written = Written {
+    number: 13,
+    length: 0,
+};
 
-const NO_READING: Written = Written { number: 21, length: 0 };
+const NO_READING: Written = Written {
+    number: 21,
+    length: 0,
+};
 
-const NO_ROOM: Written = Written { number: 26, length: 0 };
+const NO_ROOM: Written = Written {
+    number: 26,
+    length: 0,
+};
 
 // The length of the lines after line 1.
 fn body_length(words: u16) -> usize

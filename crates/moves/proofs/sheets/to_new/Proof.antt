@@ -1,71 +1,58 @@
+-- A sheet that is refused, or its words written with line 1's ID.
+use denote.Ref.{now}
+use mathlib.Core.Path.{sym}
+use native.Mathlib.Omega.{arith}
+use Rattle.board.specs.LawsOpen.{name-cut}
+use Rattle.moves.specs.LawsMove.{moved-refused}
+use Rattle.moves.specs.LawsWords.{name-within, words-within, words-long, new-moved}
 use borrow.Author.Needs.{needs}
 use Rattle.moves.proofs.sheets.to_new.Statement.{statement}
 use Rattle.moves.proofs.sheets.to_new.Tie as tie
-use Rattle.moves.proofs.sheets.to_new.Reads as reads
-use Rattle.moves.proofs.sheets.to_new.Lts as lts
-use Rattle.moves.proofs.sheets.open_sheet.Reads as open-sheet-reads
-use Rattle.moves.proofs.sheets.with_id.Reads as with-id-reads
-use Rattle.sheetwrite.proofs.write_new_sheet.Reads as write-new-sheet-reads
 
--- src/sheets.rt:29:42
 slice-aggregate-open-sheet : tie.Need-slice-aggregate-open-sheet
 slice-aggregate-open-sheet c = search needs
 
--- src/sheets.rt:29:9
 open-sheet-requires : tie.Need-open-sheet-requires
 open-sheet-requires c κs = search needs
 
--- src/sheets.rt:31:9
 returns : tie.Need-returns
-returns c = ?
+returns c = moved-refused _ _ _ _ (c .before .before .before .open-sheet .ensures .0) (λ z. omega (arith, z, c .if1 .taken))
 
--- src/sheets.rt:37:15
 add-end : tie.Need-add-end
-add-end c = ?
+add-end c = let h = name-within _ _ _ (c .before .before .before .before .open-sheet .ensures .0) (c .before .if1 .left) _ (c .before .before .before .before .open-sheet .ensures .1) _ (c .before .before .before .before .open-sheet .ensures .2) _ _ (c .before .before .before .before .open-sheet .ensures .3) (c .before .before .before .before .open-sheet .ensures .4) in search needs
 
--- src/sheets.rt:39:18
 cast-count : tie.Need-cast-count
 cast-count c = search needs
 
--- src/sheets.rt:39:17
 add-count : tie.Need-add-count
 add-count c = search needs
 
--- src/sheets.rt:40:9
 with-id-requires : tie.Need-with-id-requires
 with-id-requires c κs = search needs
 
--- src/sheets.rt:41:40
 sub-write-new-sheet : tie.Need-sub-write-new-sheet
 sub-write-new-sheet c = search needs
 
--- src/sheets.rt:41:40
 part-write-new-sheet-start : tie.Need-part-write-new-sheet-start
 part-write-new-sheet-start c = search needs
 
--- src/sheets.rt:41:40
 part-write-new-sheet-end : tie.Need-part-write-new-sheet-end
-part-write-new-sheet-end c = ?
+part-write-new-sheet-end c = omega (arith, name-within _ _ _ (c .before .before .before .before .before .before .before .open-sheet .ensures .0) (c .before .before .before .before .if1 .left) _ (c .before .before .before .before .before .before .before .open-sheet .ensures .1) _ (c .before .before .before .before .before .before .before .open-sheet .ensures .2) _ _ (c .before .before .before .before .before .before .before .open-sheet .ensures .3) (c .before .before .before .before .before .before .before .open-sheet .ensures .4))
 
--- src/sheets.rt:41:57
 array-share-prefix-words : tie.Need-array-share-prefix-words
-array-share-prefix-words c = ?
+array-share-prefix-words c = words-within _ _ _ (c .before .before .before .before .before .before .before .before .open-sheet .ensures .0) (c .before .before .before .before .before .if1 .left) _ (c .before .before .before .before .before .before .before .before .open-sheet .ensures .1) _ (c .before .before .before .before .before .before .before .before .open-sheet .ensures .2)
 
--- src/sheets.rt:41:57
 slice-aggregate-write-new-sheet : tie.Need-slice-aggregate-write-new-sheet
-slice-aggregate-write-new-sheet c = ?
+slice-aggregate-write-new-sheet c = sym (words-long _ _ _ (c .before .before .before .before .before .before .before .before .before .open-sheet .ensures .0) (c .before .before .before .before .before .before .if1 .left) _ (c .before .before .before .before .before .before .before .before .before .open-sheet .ensures .1) _ (c .before .before .before .before .before .before .before .before .before .open-sheet .ensures .2))
 
--- src/sheets.rt:41:5
 write-new-sheet-requires : tie.Need-write-new-sheet-requires
 write-new-sheet-requires c κs = search needs
 
--- src/sheets.rt:25:1
 same-length : tie.Need-same-length
 same-length c = search needs
 
--- src/sheets.rt:25:1
 returns-2 : tie.Need-returns-2
-returns-2 c = ?
+returns-2 c = new-moved _ _ _ (c .before .before .before .before .before .before .before .before .before .before .before .before .before .open-sheet .ensures .0) (c .before .before .before .before .before .before .before .before .before .before .if1 .left) _ (c .before .before .before .before .before .before .before .before .before .before .before .before .before .open-sheet .ensures .1) _ (c .before .before .before .before .before .before .before .before .before .before .before .before .before .open-sheet .ensures .2) _ (c .before .before .before .before .before .before .with-id .ensures) _ _ (name-cut _ _ _ _ (c .before .before .before .before .before .before .before .before .before .before .before .before .before .open-sheet .ensures .3) (c .before .before .before .before .before .before .before .before .before .before .before .before .before .open-sheet .ensures .4)) _ (c .before .before .write-new-sheet .ensures .0) _ (c .before .before .write-new-sheet .ensures .1)
 
 pub to-new-spec : {M : Type 1} → statement M
 to-new-spec =
