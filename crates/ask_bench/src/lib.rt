@@ -9,12 +9,12 @@ use ask::room;
 // The end of the answer to a request on a program's text.
 pub fn answer(name: &[u8], line: &[u8], at: usize, a: &mut [u8], out: &mut [u8]) -> usize {
     let which = name::place(
-        b"bench.checksum bench.readback bench.dump bench.verify bench.update bench.fresh bench.wanted bench.wanted_fresh bench.trial bench.gather",
+        b"bench.checksum bench.readback bench.dump bench.newsheet bench.oldsheet bench.verify bench.update bench.fresh bench.wanted bench.wanted_fresh bench.trial bench.gather",
         name,
     );
     match which {
-        0..=2 => ask_two(which, line, at, a, out),
-        3..=9 => ask_three(which, line, at, a, out),
+        0..=4 => ask_two(which, line, at, a, out),
+        5..=11 => ask_three(which, line, at, a, out),
         _ => UNKNOWN,
     }
 }
@@ -42,7 +42,9 @@ fn print_two(which: usize, table: &[u8], sheet: &[u8], text: &mut [u8]) -> usize
     match which {
         0 => reports::checksum(table, sheet, text),
         1 => listings::readback(table, sheet, text),
-        _ => reports::dump(table, sheet, text),
+        2 => reports::dump(table, sheet, text),
+        3 => moves::newsheet(table, sheet, text),
+        _ => moves::oldsheet(table, sheet, text),
     }
 }
 
@@ -70,12 +72,12 @@ fn ask_three(which: usize, line: &[u8], at: usize, a: &mut [u8], out: &mut [u8])
 
 fn print_three(which: usize, table: &[u8], sheet: &[u8], third: &[u8], text: &mut [u8]) -> usize {
     match which {
-        3 => reports::verify(table, sheet, third, text),
-        4 => listings::update(table, sheet, third, text),
-        5 => listings::fresh(table, sheet, third, text),
-        6 => listings::wanted(table, sheet, third, text),
-        7 => listings::wanted_fresh(table, sheet, third, text),
-        8 => trials::trial(table, sheet, third, text),
+        5 => reports::verify(table, sheet, third, text),
+        6 => listings::update(table, sheet, third, text),
+        7 => listings::fresh(table, sheet, third, text),
+        8 => listings::wanted(table, sheet, third, text),
+        9 => listings::wanted_fresh(table, sheet, third, text),
+        10 => trials::trial(table, sheet, third, text),
         _ => gathers::gather(table, sheet, third, text),
     }
 }

@@ -4,6 +4,7 @@ use ask::fields::NOWHERE;
 use ask::put;
 use ask::room;
 use board::MOST_READING;
+use board::Opened;
 
 pub(crate) fn open_record(line: &[u8], at: usize, a: &mut [u8], out: &mut [u8]) -> usize {
     let mut b = room::for_bytes();
@@ -15,8 +16,7 @@ pub(crate) fn open_record(line: &[u8], at: usize, a: &mut [u8], out: &mut [u8]) 
     let n = table.count;
     let m = sheet.count;
     let opened = board::open_record(&a[..n], &b[..m]);
-    let device = opened.device;
-    put::record(out, at, opened.number, device)
+    put_opened(out, at, opened)
 }
 
 // The reading's array is filled with one word before.
@@ -32,9 +32,15 @@ pub(crate) fn open_board(line: &[u8], at: usize, a: &mut [u8], out: &mut [u8]) -
     let m = sheet.count;
     let mut reading = [fill.value; MOST_READING];
     let opened = board::open_board(&a[..n], &b[..m], &mut reading);
+    let next = put_opened(out, at, opened);
+    put_reading(out, next, &reading)
+}
+
+// The number, the record, and where its name stands.
+fn put_opened(out: &mut [u8], at: usize, opened: Opened) -> usize {
     let device = opened.device;
     let next = put::record(out, at, opened.number, device);
-    put_reading(out, next, &reading)
+    put::two(out, next, opened.name_at as u64, opened.name_len as u64)
 }
 
 fn put_reading(out: &mut [u8], at: usize, reading: &[u16; MOST_READING]) -> usize {

@@ -17,7 +17,7 @@ pub fn answer(
     out: &mut [u8],
 ) -> usize {
     match name::place(
-        b"device.judge device.judge_table device.find_device device.is_image judge.checksum judge.verify sheet.read_sheet sheet.read_id sheet.write_sheet device.is_reading device.is_protected device.programmable device.fits device.under_mask",
+        b"device.judge device.judge_table device.find_device device.is_image judge.checksum judge.verify sheet.read_sheet sheet.read_id sheet.write_sheet device.is_reading device.is_protected device.programmable device.fits device.under_mask device.is_name sheet.write_new_sheet sheet.to_new sheet.to_old",
         name,
     ) {
         0 => records::judge(line, at, out),
@@ -34,6 +34,10 @@ pub fn answer(
         11 => records::programmable(line, at, out),
         12 => records::fits(line, at, out),
         13 => records::under_mask(line, at, out),
+        14 => records::is_name(line, at, a, out),
+        15 => sheets::write_new_sheet(line, at, a, w, out),
+        16 => sheets::move_sheet(true, line, at, a, out),
+        17 => sheets::move_sheet(false, line, at, a, out),
         _ => UNKNOWN,
     }
 }

@@ -100,3 +100,12 @@ pub(crate) fn under_mask(line: &[u8], at: usize, out: &mut [u8]) -> usize {
         device::under_mask(d.device, i.value as usize, new.value, old.value) as u64,
     )
 }
+
+pub(crate) fn is_name(line: &[u8], at: usize, a: &mut [u8], out: &mut [u8]) -> usize {
+    let text = fields::bytes(line, at, a);
+    if text.at != line.len() {
+        return NOWHERE;
+    }
+    let n = text.count;
+    put::number(out, at, table::is_name(&a[..n]) as u64)
+}
