@@ -7,6 +7,9 @@ use Rattle.capi.proofs.board.tickmallet_verify.Reads as verify
 use Rattle.capi.proofs.board.tickmallet_read_id.Reads as read-id
 use Rattle.capi.proofs.board.tickmallet_read_sheet.Reads as read-sheet
 use Rattle.capi.proofs.board.tickmallet_write_sheet.Reads as write-sheet
+use Rattle.capi.proofs.board.tickmallet_write_new_sheet.Reads as write-new-sheet
+use Rattle.capi.proofs.moved.tickmallet_to_new.Reads as to-new
+use Rattle.capi.proofs.moved.tickmallet_to_old.Reads as to-old
 use Rattle.capi.proofs.hex.tickmallet_read_hex.Reads as read-hex
 use Rattle.capi.proofs.hex.tickmallet_write_hex.Reads as write-hex
 use Rattle.capi.proofs.model.tickmallet_run.Reads as run
@@ -29,13 +32,27 @@ pub read-id-determined : (κs : _) (a : _) (r s : _) (x y : _) → read-id.Post 
 read-id-determined κs a r s x y p q = let e = determined p q in (ap (λ v. v .number) e, ap (λ v. v .id) e)
 
 -- the buffer is the third parameter
-pub read-sheet-determined : (κs : _) (a : _) (r s : _) (x y : _) → read-sheet.Post κs a r x → read-sheet.Post κs a s y → (r ≡ s) × (now (x .1 .1 .0) ≡ now (y .1 .1 .0))
+pub read-sheet-determined : (κs : _) (a : _) (r s : _) (x y : _) → read-sheet.Post κs a r x → read-sheet.Post κs a s y → (r ≡ s) × (now (x .1 .1 .1 .0) ≡ now (y .1 .1 .1 .0))
 read-sheet-determined κs a r s x y p q = (determined (p .0) (q .0), determined (p .1) (q .1))
 
 -- the text is the third parameter, its length the fourth
 pub write-sheet-determined : (κs : _) (a : _) (r s : _) (x y : _) → write-sheet.Post κs a r x → write-sheet.Post κs a s y
     → (r ≡ s) × (now (x .1 .1 .0) ≡ now (y .1 .1 .0)) × (now (x .1 .1 .1 .0) ≡ now (y .1 .1 .1 .0))
 write-sheet-determined κs a r s x y p q = let e = determined (p .0) (q .0) in (ap (λ v. v .number) e, determined (p .1) (q .1), ap (λ v. v .length) e)
+
+-- the text is the fourth parameter, its length the fifth
+pub write-new-sheet-determined : (κs : _) (a : _) (r s : _) (x y : _) → write-new-sheet.Post κs a r x → write-new-sheet.Post κs a s y
+    → (r ≡ s) × (now (x .1 .1 .1 .0) ≡ now (y .1 .1 .1 .0)) × (now (x .1 .1 .1 .1 .0) ≡ now (y .1 .1 .1 .1 .0))
+write-new-sheet-determined κs a r s x y p q = let e = determined (p .0) (q .0) in (ap (λ v. v .number) e, determined (p .1) (q .1), ap (λ v. v .length) e)
+
+-- the text is the third parameter, its length the fourth
+pub to-new-determined : (κs : _) (a : _) (r s : _) (x y : _) → to-new.Post κs a r x → to-new.Post κs a s y
+    → (r ≡ s) × (now (x .1 .1 .0) ≡ now (y .1 .1 .0)) × (now (x .1 .1 .1 .0) ≡ now (y .1 .1 .1 .0))
+to-new-determined κs a r s x y p q = let e = determined (p .0) (q .0) in (ap (λ v. v .number) e, determined (p .1) (q .1), ap (λ v. v .length) e)
+
+pub to-old-determined : (κs : _) (a : _) (r s : _) (x y : _) → to-old.Post κs a r x → to-old.Post κs a s y
+    → (r ≡ s) × (now (x .1 .1 .0) ≡ now (y .1 .1 .0)) × (now (x .1 .1 .1 .0) ≡ now (y .1 .1 .1 .0))
+to-old-determined κs a r s x y p q = let e = determined (p .0) (q .0) in (ap (λ v. v .number) e, determined (p .1) (q .1), ap (λ v. v .length) e)
 
 -- the image is the third parameter, the line the fourth, the column the fifth
 pub read-hex-determined : (κs : _) (a : _) (r s : _) (x y : _) → read-hex.Post κs a r x → read-hex.Post κs a s y

@@ -8,7 +8,7 @@ use Rattle.table.specs.declared.Found.{Found}
 use Rattle.judge.specs.declared.Sum.{Sum}
 use Rattle.judge.specs.declared.Verdict.{Verdict}
 use Rattle.sheet.specs.declared.Line1.{Line1}
-use Rattle.sheet.specs.declared.Written.{Written}
+use Rattle.sheetwrite.specs.declared.Written.{Written}
 use Rattle.hexread.specs.declared.ReadHex.{ReadHex}
 use Rattle.hexwrite.specs.declared.WrittenHex.{WrittenHex}
 use Rattle.target.specs.declared.Ran.{Ran}

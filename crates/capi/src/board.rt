@@ -3,7 +3,9 @@ use crate::record::device_at;
 ghost use mathlib.Core.Path.{_≡_};
 ghost use Rattle.judge.specs.Checksum.{summed};
 ghost use Rattle.judge.specs.Verify.{verified};
-ghost use Rattle.sheet.specs.Sheet.{readNumber, readBuffer, written, writtenText, firstLine};
+ghost use Rattle.sheet.specs.FirstLine.{firstLine};
+ghost use Rattle.sheet.specs.Sheet.{readNumber, readBuffer};
+ghost use Rattle.sheetwrite.specs.Write.{written, writtenText, newWritten, newWrittenText};
 ghost use Rattle.capi.specs.Crossing.{deviceAt, sumAnswer, verdictAnswer, idAnswer, sheetAnswer};
 
 // The checksum of a reading.
@@ -43,16 +45,21 @@ pub extern "C" fn tickmallet_read_id(text: &[u8], id: &mut u16) -> u8
     first.number
 }
 
-// A sheet read into a buffer.
+// A sheet of either form read into a buffer.
 #[no_mangle]
-pub extern "C" fn tickmallet_read_sheet(numbers: &[u16; 6], text: &[u8], buffer: &mut [u16]) -> u8
-    ensures { λ r. ⌜ (r ≡ readNumber (deviceAt (now (numbers .entry))) (now (text .entry)) (now (buffer .entry)))
-        × (now (buffer .exit) ≡ readBuffer (deviceAt (now (numbers .entry))) (now (text .entry)) (now (buffer .entry))) ⌝ }
+pub extern "C" fn tickmallet_read_sheet(
+    numbers: &[u16; 6],
+    name: &[u8],
+    text: &[u8],
+    buffer: &mut [u16],
+) -> u8
+    ensures { λ r. ⌜ (r ≡ readNumber (deviceAt (now (numbers .entry))) (now (name .entry)) (now (text .entry)) (now (buffer .entry)))
+        × (now (buffer .exit) ≡ readBuffer (deviceAt (now (numbers .entry))) (now (name .entry)) (now (text .entry)) (now (buffer .entry))) ⌝ }
 {
-    sheet::read_sheet(device_at(numbers), text, buffer)
+    sheet::read_sheet(device_at(numbers), name, text, buffer)
 }
 
-// A sheet written.
+// A sheet written in the old form.
 #[no_mangle]
 pub extern "C" fn tickmallet_write_sheet(
     numbers: &[u16; 6],
@@ -63,7 +70,24 @@ pub extern "C" fn tickmallet_write_sheet(
     ensures { λ r. ⌜ (sheetAnswer r (now (length .exit)) ≡ written (deviceAt (now (numbers .entry))) (now (reading .entry)) (now (out .entry)))
         × (now (out .exit) ≡ writtenText (deviceAt (now (numbers .entry))) (now (reading .entry)) (now (out .entry))) ⌝ }
 {
-    let w = sheet::write_sheet(device_at(numbers), reading, out);
+    let w = sheetwrite::write_sheet(device_at(numbers), reading, out);
+    *length = w.length;
+    w.number
+}
+
+// A sheet written in the new form.
+#[no_mangle]
+pub extern "C" fn tickmallet_write_new_sheet(
+    numbers: &[u16; 6],
+    name: &[u8],
+    reading: &[u16],
+    out: &mut [u8],
+    length: &mut usize,
+) -> u8
+    ensures { λ r. ⌜ (sheetAnswer r (now (length .exit)) ≡ newWritten (deviceAt (now (numbers .entry))) (now (name .entry)) (now (reading .entry)) (now (out .entry)))
+        × (now (out .exit) ≡ newWrittenText (deviceAt (now (numbers .entry))) (now (name .entry)) (now (reading .entry)) (now (out .entry))) ⌝ }
+{
+    let w = sheetwrite::write_new_sheet(device_at(numbers), name, reading, out);
     *length = w.length;
     w.number
 }

@@ -3,5 +3,6 @@
 mod board;
 mod hex;
 mod model;
+mod moved;
 mod record;
 mod streams;
