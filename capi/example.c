@@ -1,6 +1,6 @@
 /* Plans the update of a board and tries it on the model.
 
-     example TABLE SHEET HEX      as device.tab, board.txt and new.hex of the program `update`
+     example TABLE SHEET HEX      as device.tab, board.txt and new.hex of the program `update`; the sheet may have either form
 
    Prints the number of steps and how many words of the model changed; or `refused`, the number, a line number and a column. It takes every
    device and every text that the calls take, where that program has room for less. */
@@ -14,8 +14,9 @@
    at most. */
 enum { P = TICKMALLET_MOST_WORDS, R = 8, MOST_TABLE = 64 * 46 };
 
-/* Each text has room for one byte more than a sound one can have: a file that is too long is refused, and its beginning is not taken for it. */
-static uint8_t table[MOST_TABLE + 1], sheet[TICKMALLET_SHEET_BYTES(P) + 1], hex[TICKMALLET_MOST_HEX_READ + 1];
+/* Each text has room for one byte more than a sound one can have: a file that is too long is refused, and its beginning is not taken for it.
+   No sheet is longer than one of the new form with the longest name. */
+static uint8_t table[MOST_TABLE + 1], sheet[TICKMALLET_NEW_SHEET_BYTES(P, TICKMALLET_MOST_NAME) + 1], hex[TICKMALLET_MOST_HEX_READ + 1];
 static uint16_t reading[TICKMALLET_READING_WORDS(P)], image[TICKMALLET_IMAGE_WORDS(P)], cells[TICKMALLET_CELLS(P)];
 static uint8_t stream[TICKMALLET_STREAM_BYTES(P, R)];
 
@@ -75,9 +76,9 @@ int main(int argc, char **argv)
         return 1;
     }
 
-    /* what the board holds, and what the file gives */
+    /* what the board holds, and what the file gives; a sheet of the new form is held against the table's name too */
     size_t count = TICKMALLET_READING_WORDS(device.words);
-    uint8_t number = tickmallet_read_sheet(&device, sheet, sheet_count, reading, count);
+    uint8_t number = tickmallet_read_sheet(&device, table + name_at, name_len, sheet, sheet_count, reading, count);
     if (number)
         return refused(number);
     uint32_t line, column;

@@ -17,14 +17,21 @@
    - an image has P+9 entries, each a word or FFFFh for 'not given': entry i is word i, entry P+k is word 8000h+k; 8004h to 8006h are never given;
    - a reading has P+9 words, placed in the same way;
    - the model's cells are P+11 words: a reading and the two calibration words;
-   - a stream has three bytes a step: code, payload low, payload high.
+   - a stream has three bytes a step: code, payload low, payload high;
+   - a sheet is text, of one of two forms, and its first line tells which. In the old form that line is the ID, in four capital hex digits, and
+     LF. In the new one it is the ID, a tab, the name that the device table has for the record, a tab, the sum, in four capital hex digits, and
+     LF; the sum is what tickmallet_checksum gives for the words of the sheet. The other lines are the same in both forms.
    A refused call leaves its buffers as they were, except that read_hex clears the image and run keeps the steps before the refused one.
-   Bytes of a buffer past what was written stay. */
+   Bytes of a buffer past what was written stay.
+
+   Stack: read_sheet wants 72 KiB of it, to_new and to_old 136 KiB, every other call 8 KiB, whatever the device and the text. These three keep a
+   sheet's words there, in room for the largest device's: 64 KiB, a move twice. Of each figure 4 KiB are for the loader, which may take them when
+   a function of the C library is first called. */
 
 #ifndef TICKMALLET_H
 #define TICKMALLET_H
 
-#define TICKMALLET_VERSION "0.4.0"
+#define TICKMALLET_VERSION "0.5.0"
 
 #include <stddef.h>
 #include <stdint.h>
@@ -47,12 +54,13 @@ typedef struct {
 } tickmallet_device;
 
 /* Sizes, for a record that keeps the rules: how long each list has to be, and a room that each output fits, so that 26 is not given. The
-   outputs' sizes are proved; capi/README.md names each theorem. All are constant expressions where P and R are, so that they can be the
-   sizes of arrays. P and R are evaluated more than once. Room for every device is that of TICKMALLET_MOST_WORDS and R = 8; a program that has
-   less asks the record for its words before it lends a list of so many. Both limits grew with 0.3.0 (8192 and 131072 before), so that a
-   program compiled with a header from before that has less. */
+   outputs' sizes are proved; capi/README.md names each theorem. All are constant expressions where P, R and N are, so that they can be the
+   sizes of arrays. P and R are evaluated more than once. Room for every device is that of TICKMALLET_MOST_WORDS, R = 8 and TICKMALLET_MOST_NAME;
+   a program that has less asks the record for its words before it lends a list of so many. The first two limits grew with 0.3.0 (8192 and
+   131072 before), so that a program compiled with a header from before that has less. */
 #define TICKMALLET_MOST_WORDS 32768      /* P of the largest device */
 #define TICKMALLET_MOST_HEX_READ 524288  /* bytes of HEX text that read_hex takes */
+#define TICKMALLET_MOST_NAME 16          /* characters of the longest name */
 
 #define TICKMALLET_IMAGE_WORDS(P) ((size_t)(P) + 9)    /* entries of an image, just so many */
 #define TICKMALLET_READING_WORDS(P) ((size_t)(P) + 9)  /* words of a reading, just so many */
@@ -67,31 +75,53 @@ typedef struct {
 #define TICKMALLET_READ_BACK_BYTES(P) (3 * TICKMALLET_READ_BACK_STEPS(P))
 #define TICKMALLET_READ_BACK_WORDS(P) ((size_t)(P) + 9)
 
-/* A sheet has just so many bytes. */
+/* A sheet has just so many bytes: in the old form, and in the new one with a name of N characters. Where N is TICKMALLET_MOST_NAME there is
+   room for every name, and for a sheet of either form. */
 #define TICKMALLET_SHEET_BYTES(P) (5 + 45 * ((size_t)(P) / 8) + 50)
+#define TICKMALLET_NEW_SHEET_BYTES(P, N) (11 + (size_t)(N) + 45 * ((size_t)(P) / 8) + 50)
 
 /* HEX text that write_hex writes has at most so many bytes. So much is proved; no text that was found has more than 17 P / 2 + 96. */
 #define TICKMALLET_HEX_BYTES(P) (14 * (size_t)(P) + 156)
 
 /* Looks an ID up in the text of a device table, which is judged whole. A line has six fields, or seven with the ID's mask last; six stand
    for 3FFFh. 15: the table is malformed, also where some word fits two of its lines. 16: the ID fits no line. Else 0, the record as the line
-   has it, with the line's ID, and the place and length of its name in the text. */
+   has it, with the line's ID, and the place and length of its name in the text. A name is 1 to 16 characters from 20h to 7Eh. */
 uint8_t tickmallet_find_device(const uint8_t *table, size_t table_count, uint16_t id,
                                tickmallet_device *device, size_t *name_at, size_t *name_len);
 
-/* The ID on the first line of a sheet. 14: no four capital digits up to 3FFF and LF stand there. */
+/* The ID on the first line of a sheet, of either form. 14: that line is of neither form. So it is if it has two fields or more than three, an
+   ID above 3FFF, a name that no table can have, small letters or another count of digits in the ID or the sum, or no LF. */
 uint8_t tickmallet_read_id(const uint8_t *text, size_t text_count, uint16_t *id);
 
-/* Reads a sheet into a buffer of P+9 words.
-   13: the record. 12: the buffer is not P+9 long. 14: the text is not a sheet of P+9 words, or the ID on its first line does not fit
-   the record; it is not held against word 8006h. */
-uint8_t tickmallet_read_sheet(const tickmallet_device *device, const uint8_t *text, size_t text_count,
+/* Reads a sheet of either form into a buffer of P+9 words. The name is the record's, as find_device finds it in a table.
+   13: the record, or the name is none that a table can have. 12: the buffer is not P+9 long. 14: the text is not a sheet of P+9 words, or the
+   ID on its first line does not fit the record; it is not held against word 8006h. Then, in the new form alone, 18: the sheet has another
+   name. 19: the sheet's sum is not the checksum of its words.
+   The name came with 0.5.0. A program compiled with an older header hands over two arguments less, which no linker tells: its calls get the
+   name, and it is compiled anew and not only linked anew. */
+uint8_t tickmallet_read_sheet(const tickmallet_device *device, const uint8_t *name, size_t name_count, const uint8_t *text, size_t text_count,
                               uint16_t *reading, size_t reading_count);
 
-/* Writes the sheet of a reading, with the record's ID on the first line, and stores its length. 13; 21: not a reading; 26: the buffer is
-   too short. */
+/* Writes the sheet of a reading in the old form, with the record's ID on the first line, and stores its length. 13; 21: not a reading; 26: the
+   buffer is too short. */
 uint8_t tickmallet_write_sheet(const tickmallet_device *device, const uint16_t *reading, size_t reading_count,
                                uint8_t *out, size_t out_count, size_t *length);
+
+/* Writes it in the new form, with the record's ID, the name and the checksum of the reading on the first line. 13: the record, or the name is
+   none that a table can have; 21; 26. */
+uint8_t tickmallet_write_new_sheet(const tickmallet_device *device, const uint8_t *name, size_t name_count,
+                                   const uint16_t *reading, size_t reading_count, uint8_t *out, size_t out_count, size_t *length);
+
+/* Each moves a sheet of either form to the one in its name, under a device table, and stores the length. Record and name are those of the line
+   that the first line's ID fits; that ID stays, where it is not the record's too. A sheet that is in that form already comes out the same,
+   once it is judged in the same way. They take every device that the table can have.
+   15: the table is malformed. 14: the sheet's first line is of neither form. 16: its ID fits no line of the table. 14: the other lines are not
+   those of a sheet of P+9 words. 18: the sheet has another name than the table. 19: the sheet's sum is not the checksum of its words. 26: the
+   buffer is too short. */
+uint8_t tickmallet_to_new(const uint8_t *table, size_t table_count, const uint8_t *text, size_t text_count,
+                          uint8_t *out, size_t out_count, size_t *length);
+uint8_t tickmallet_to_old(const uint8_t *table, size_t table_count, const uint8_t *text, size_t text_count,
+                          uint8_t *out, size_t out_count, size_t *length);
 
 /* Reads HEX text into an image, and stores the line of a refusal and the column in it (each from 1; both 0 where the refusal has none).
    13 and 12 (the image is not P+9 long) leave the image; every other refusal makes it all FFFFh.

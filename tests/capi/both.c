@@ -13,8 +13,11 @@ static const struct {
 } calls[CALLS] = {
     {"find_device", {0, 15, 16, LAST}},
     {"read_id", {0, 14, LAST}},
-    {"read_sheet", {0, 12, 13, 14, LAST}},
+    {"read_sheet", {0, 12, 13, 14, 18, 19, LAST}},
     {"write_sheet", {0, 13, 21, 26, LAST}},
+    {"write_new_sheet", {0, 13, 21, 26, LAST}},
+    {"to_new", {0, 14, 15, 16, 18, 19, 26, LAST}},
+    {"to_old", {0, 14, 15, 16, 18, 19, 26, LAST}},
     {"read_hex", {0, 1, 2, 3, 4, 5, 6, 7, 8, 9, 10, 11, 12, 13, LAST}},
     {"write_hex", {0, 13, 20, 26, LAST}},
     {"run", {0, 13, 30, 31, 32, 33, 34, 35, LAST}},
@@ -97,7 +100,7 @@ static unsigned least(enum call call, unsigned number)
 
 static void show_seen(enum call call)
 {
-    printf("%-12s", calls[call].name);
+    printf("%-15s", calls[call].name);
     for (const uint8_t *number = calls[call].numbers; *number != LAST; number++) {
         unsigned n = least(call, *number);
         printf(" %u:%u", *number, n);

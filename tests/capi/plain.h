@@ -7,10 +7,16 @@
 uint8_t plain_find_device(const uint8_t *table, size_t table_count, uint16_t id,
                           tickmallet_device *device, size_t *name_at, size_t *name_len);
 uint8_t plain_read_id(const uint8_t *text, size_t text_count, uint16_t *id);
-uint8_t plain_read_sheet(const tickmallet_device *device, const uint8_t *text, size_t text_count,
+uint8_t plain_read_sheet(const tickmallet_device *device, const uint8_t *name, size_t name_count, const uint8_t *text, size_t text_count,
                          uint16_t *reading, size_t reading_count);
 uint8_t plain_write_sheet(const tickmallet_device *device, const uint16_t *reading, size_t reading_count,
                           uint8_t *out, size_t out_count, size_t *length);
+uint8_t plain_write_new_sheet(const tickmallet_device *device, const uint8_t *name, size_t name_count,
+                              const uint16_t *reading, size_t reading_count, uint8_t *out, size_t out_count, size_t *length);
+uint8_t plain_to_new(const uint8_t *table, size_t table_count, const uint8_t *text, size_t text_count,
+                     uint8_t *out, size_t out_count, size_t *length);
+uint8_t plain_to_old(const uint8_t *table, size_t table_count, const uint8_t *text, size_t text_count,
+                     uint8_t *out, size_t out_count, size_t *length);
 uint8_t plain_read_hex(const tickmallet_device *device, const uint8_t *text, size_t text_count,
                        uint16_t *image, size_t image_count, uint32_t *line, uint32_t *column);
 uint8_t plain_write_hex(const tickmallet_device *device, const uint16_t *image, size_t image_count,

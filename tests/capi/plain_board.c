@@ -1,7 +1,9 @@
 /* The device table and board sheets in plain C. */
+#include <string.h>
+
 #include "plain_common.h"
 
-enum { TAB = 9, LF = 10, MOST_LINES = 64, MOST_NAME = 16, A_LINE = 8 };
+enum { TAB = 9, LF = 10, MOST_LINES = 64, MOST_NAME = 16, A_LINE = 8, MOST_READING = 32768 + 9 };
 
 struct cursor {
     const uint8_t *text;
@@ -51,24 +53,31 @@ static int takes_decimal(struct cursor *c, uint16_t *number)
     return 1;
 }
 
+struct name {
+    size_t at, len;
+};
+
+static int takes_name(struct cursor *c, struct name *n)
+{
+    n->at = c->at;
+    while (c->at < c->end && c->text[c->at] >= 0x20 && c->text[c->at] <= 0x7e)
+        c->at++;
+    n->len = c->at - n->at;
+    return n->len >= 1 && n->len <= MOST_NAME;
+}
+
 /* ---- the table */
 
 struct line {
     tickmallet_device device;
-    size_t name_at, name_len;
+    struct name name;
 };
 
 static int takes_line(struct cursor *c, struct line *l)
 {
     tickmallet_device *d = &l->device;
-    l->name_at = c->at;
-    while (c->at < c->end && c->text[c->at] >= 0x20 && c->text[c->at] <= 0x7e)
-        c->at++;
-    l->name_len = c->at - l->name_at;
-    if (l->name_len < 1 || l->name_len > MOST_NAME)
-        return 0;
-    if (!(takes(c, TAB) && takes_word(c, &d->id) && takes(c, TAB) && takes_decimal(c, &d->words) && takes(c, TAB) && takes_decimal(c, &d->row) &&
-          takes(c, TAB) && takes_word(c, &d->mask1) && takes(c, TAB) && takes_word(c, &d->mask2)))
+    if (!(takes_name(c, &l->name) && takes(c, TAB) && takes_word(c, &d->id) && takes(c, TAB) && takes_decimal(c, &d->words) && takes(c, TAB) &&
+          takes_decimal(c, &d->row) && takes(c, TAB) && takes_word(c, &d->mask1) && takes(c, TAB) && takes_word(c, &d->mask2)))
         return 0;
     d->idmask = LIMIT - 1; /* of a line with six fields: the whole ID is compared */
     if (takes(c, TAB) && !takes_word(c, &d->idmask))
@@ -103,69 +112,98 @@ uint8_t plain_find_device(const uint8_t *table, size_t table_count, uint16_t id,
     for (size_t i = 0; i < n; i++)
         if (fits(&lines[i].device, id)) {
             *device = lines[i].device;
-            *name_at = lines[i].name_at;
-            *name_len = lines[i].name_len;
+            *name_at = lines[i].name.at;
+            *name_len = lines[i].name.len;
             return 0;
         }
     return 16;
 }
 
-/* ---- sheets */
+/* ---- sheets, read */
 
-static int takes_id(struct cursor *c, uint16_t *id)
+/* The first line: the old form has the ID alone. */
+struct first {
+    uint16_t id, sum;
+    struct name name;
+    int is_new;
+};
+
+static int takes_first(struct cursor *c, struct first *f)
 {
-    return takes_word(c, id) && *id < LIMIT && takes(c, LF);
+    if (!takes_word(c, &f->id) || f->id >= LIMIT)
+        return 0;
+    f->is_new = !takes(c, LF);
+    return !f->is_new || (takes(c, TAB) && takes_name(c, &f->name) && takes(c, TAB) && takes_word(c, &f->sum) && takes(c, LF));
 }
 
 uint8_t plain_read_id(const uint8_t *text, size_t text_count, uint16_t *id)
 {
     struct cursor c = {text, 0, text_count};
-    if (takes_id(&c, id))
-        return 0;
+    struct first f;
     *id = 0;
-    return 14;
+    if (!takes_first(&c, &f))
+        return 14;
+    *id = f.id;
+    return 0;
 }
 
-/* A line of words after an address; where there is a list, they go there. */
+/* A line of words after an address. */
 static int takes_words(struct cursor *c, unsigned address, size_t count, uint16_t *to)
 {
     uint16_t word;
     if (!takes_word(c, &word) || word != address)
         return 0;
-    for (size_t i = 0; i < count; i++) {
-        if (!takes(c, TAB) || !takes_word(c, &word) || word >= LIMIT)
+    for (size_t i = 0; i < count; i++)
+        if (!takes(c, TAB) || !takes_word(c, &to[i]) || to[i] >= LIMIT)
             return 0;
-        if (to)
-            to[i] = word;
-    }
     return takes(c, LF);
 }
 
-static int takes_sheet(const tickmallet_device *device, const uint8_t *text, size_t count, uint16_t *to)
+/* The words of a sheet under a sound record with this name: 14, 18, 19, and then the list is whatever it is. */
+static uint8_t sheet_words(const tickmallet_device *device, const uint8_t *name, size_t name_count, const uint8_t *text, size_t count, uint16_t *to)
 {
     struct cursor c = {text, 0, count};
+    struct first f;
     size_t words = device->words;
-    uint16_t id;
-    if (!takes_id(&c, &id) || !fits(device, id))
-        return 0;
+    uint16_t sum;
+    if (!takes_first(&c, &f) || !fits(device, f.id))
+        return 14;
     for (size_t i = 0; i < words; i += A_LINE)
-        if (!takes_words(&c, (unsigned)i, A_LINE, to ? to + i : NULL))
-            return 0;
-    return takes_words(&c, BASE, 9, to ? to + words : NULL) && c.at == c.end;
+        if (!takes_words(&c, (unsigned)i, A_LINE, to + i))
+            return 14;
+    if (!takes_words(&c, BASE, 9, to + words) || c.at != c.end)
+        return 14;
+    if (!f.is_new)
+        return 0;
+    if (f.name.len != name_count || memcmp(text + f.name.at, name, name_count))
+        return 18;
+    plain_checksum(device, to, words + 9, &sum);
+    return f.sum == sum ? 0 : 19;
 }
 
-uint8_t plain_read_sheet(const tickmallet_device *device, const uint8_t *text, size_t text_count,
+/* What a table can have as a name. */
+static int name_ok(const uint8_t *name, size_t count)
+{
+    struct cursor c = {name, 0, count};
+    struct name n;
+    return takes_name(&c, &n) && n.len == count;
+}
+
+uint8_t plain_read_sheet(const tickmallet_device *device, const uint8_t *name, size_t name_count, const uint8_t *text, size_t text_count,
                          uint16_t *reading, size_t reading_count)
 {
-    if (!device_ok(device))
+    uint16_t words[MOST_READING]; /* a refusal leaves the caller's */
+    if (!device_ok(device) || !name_ok(name, name_count))
         return 13;
     if (reading_count != device->words + 9u)
         return 12;
-    if (!takes_sheet(device, text, text_count, NULL)) /* the whole text is judged before the first word is stored */
-        return 14;
-    takes_sheet(device, text, text_count, reading);
-    return 0;
+    uint8_t number = sheet_words(device, name, name_count, text, text_count, words);
+    if (number == 0)
+        memcpy(reading, words, 2 * reading_count);
+    return number;
 }
+
+/* ---- sheets, written */
 
 static uint8_t *put_word(uint8_t *to, unsigned word, unsigned after)
 {
@@ -184,21 +222,80 @@ static uint8_t *put_words(uint8_t *to, unsigned address, const uint16_t *words, 
     return to;
 }
 
+/* A sheet with this ID; without a name it has the old form. 21, 26. */
+static uint8_t put_sheet(const tickmallet_device *device, unsigned id, const uint8_t *name, size_t name_count,
+                         const uint16_t *reading, size_t reading_count, uint8_t *out, size_t out_count, size_t *length)
+{
+    size_t words = device->words, need = 5 * (1 + words / A_LINE * (1 + A_LINE) + 1 + 9); /* each field and what ends it */
+    uint16_t sum;
+    if (!words_ok(reading, reading_count, words + 9))
+        return 21;
+    if (name)
+        need += name_count + 1 + 5;
+    if (out_count < need)
+        return 26;
+    uint8_t *to = put_word(out, id, name ? TAB : LF);
+    if (name) {
+        plain_checksum(device, reading, reading_count, &sum);
+        memcpy(to, name, name_count);
+        to[name_count] = TAB;
+        to = put_word(to + name_count + 1, sum, LF);
+    }
+    for (size_t i = 0; i < words; i += A_LINE)
+        to = put_words(to, (unsigned)i, reading + i, A_LINE);
+    put_words(to, BASE, reading + words, 9);
+    *length = need;
+    return 0;
+}
+
 uint8_t plain_write_sheet(const tickmallet_device *device, const uint16_t *reading, size_t reading_count,
                           uint8_t *out, size_t out_count, size_t *length)
 {
     *length = 0;
     if (!device_ok(device))
         return 13;
-    size_t words = device->words, need = 5 * (1 + words / A_LINE * (1 + A_LINE) + 1 + 9); /* each field and what ends it */
-    if (!words_ok(reading, reading_count, words + 9))
-        return 21;
-    if (out_count < need)
-        return 26;
-    uint8_t *to = put_word(out, device->id, LF);
-    for (size_t i = 0; i < words; i += A_LINE)
-        to = put_words(to, (unsigned)i, reading + i, A_LINE);
-    put_words(to, BASE, reading + words, 9);
-    *length = need;
-    return 0;
+    return put_sheet(device, device->id, NULL, 0, reading, reading_count, out, out_count, length);
+}
+
+uint8_t plain_write_new_sheet(const tickmallet_device *device, const uint8_t *name, size_t name_count,
+                              const uint16_t *reading, size_t reading_count, uint8_t *out, size_t out_count, size_t *length)
+{
+    *length = 0;
+    if (!device_ok(device) || !name_ok(name, name_count))
+        return 13;
+    return put_sheet(device, device->id, name, name_count, reading, reading_count, out, out_count, length);
+}
+
+/* ---- sheets, moved from one form to the other */
+
+static uint8_t move(const uint8_t *table, size_t table_count, const uint8_t *text, size_t text_count, int to_new,
+                    uint8_t *out, size_t out_count, size_t *length)
+{
+    uint16_t id, words[MOST_READING];
+    tickmallet_device device;
+    struct name name;
+    uint8_t first = plain_read_id(text, text_count, &id), found = plain_find_device(table, table_count, id, &device, &name.at, &name.len);
+    *length = 0;
+    if (found == 15)
+        return 15;
+    if (first)
+        return first;
+    if (found)
+        return found;
+    uint8_t number = sheet_words(&device, table + name.at, name.len, text, text_count, words);
+    if (number)
+        return number;
+    return put_sheet(&device, id, to_new ? table + name.at : NULL, name.len, words, device.words + 9u, out, out_count, length);
+}
+
+uint8_t plain_to_new(const uint8_t *table, size_t table_count, const uint8_t *text, size_t text_count,
+                     uint8_t *out, size_t out_count, size_t *length)
+{
+    return move(table, table_count, text, text_count, 1, out, out_count, length);
+}
+
+uint8_t plain_to_old(const uint8_t *table, size_t table_count, const uint8_t *text, size_t text_count,
+                     uint8_t *out, size_t out_count, size_t *length)
+{
+    return move(table, table_count, text, text_count, 0, out, out_count, length);
 }

@@ -85,13 +85,7 @@ pub(crate) fn write_new_sheet(
 }
 
 // Table, sheet and the lent buffer; `new` tells to which form the sheet is moved.
-pub(crate) fn move_sheet(
-    new: bool,
-    line: &[u8],
-    at: usize,
-    a: &mut [u8],
-    out: &mut [u8],
-) -> usize {
+pub(crate) fn move_sheet(new: bool, line: &[u8], at: usize, a: &mut [u8], out: &mut [u8]) -> usize {
     let mut b = room::for_bytes();
     let mut c = room::for_bytes();
     let table = fields::bytes(line, at, &mut b);

@@ -2,7 +2,7 @@
 use Prim.Native.Nat.{ℕ, _+_, _≤_}
 use native.Mathlib.Omega.{arith}
 use mathlib.Core.Path.{_≡_, refl, sym, ap, _∙_}
-use mathlib.Core.Bool.{Bool, true, _&&_}
+use mathlib.Core.Bool.{Bool, true, false, _&&_}
 use mathlib.Core.List.{List}
 use lib.Dec.{leb, eqb}
 use lib.ListN.{length, take, replicate, length-replicate}
@@ -25,6 +25,7 @@ use Rattle.board.specs.LawsOpen.{opened-served, opened-named, served-most}
 use Rattle.board.specs.LawsBoard.{board-refused, board-found, record-there}
 use Rattle.moves.specs.Move.{moveNumber, newOf, oldOf, moved, movedText}
 use Rattle.moves.specs.Programs.{newsheetText, oldsheetText}
+use Rattle.moves.specs.LawsWords.{formOf}
 use Rattle.moves.specs.LawsMove.{foundNumber, lifted-is, move-found, moved-is, moved-front}
 
 -- ---- how long the two texts are
@@ -48,6 +49,12 @@ module _ (table sheet : List ℕ) (z : openNumber table sheet ≡ 0) where
   unfolding oldOf sheetLength bodyLength
   old-short = let few : recordOf table sheet .words ≤ mostProgram = most in rw length-with (omega arith)
 
+-- either of them
+pub form-short : (new : Bool) (table sheet : List ℕ) → openNumber table sheet ≡ 0 → length (formOf new table sheet) ≤ 46157
+unfolding formOf pick
+form-short true table sheet z = new-short table sheet z
+form-short false table sheet z = let h : length (oldOf table sheet) ≤ 46135 = old-short table sheet z in omega arith
+
 -- ---- a program that prints a moved sheet
 
 refused-number : (number : ℕ) (whole out : List ℕ) → (number ≡ 0 → ⊥) → moved number whole out .number ≡ number
@@ -58,12 +65,12 @@ refused-number number whole out n = ap (λ (x : Written). x .number) (pick-false
 unfoldable pub printsMoved : (table sheet whole : List ℕ) → List ℕ
 printsMoved table sheet whole = unless (eqb (boardNumber table sheet) 0) (refusedText (boardNumber table sheet) 0 0) whole
 
-pub newsheet-is : (table sheet : List ℕ) → printsMoved table sheet (newOf table sheet) ≡ newsheetText table sheet
-unfolding printsMoved newsheetText
+pub newsheet-is : (table sheet : List ℕ) → printsMoved table sheet (formOf true table sheet) ≡ newsheetText table sheet
+unfolding printsMoved newsheetText formOf pick
 newsheet-is table sheet = refl
 
-pub oldsheet-is : (table sheet : List ℕ) → printsMoved table sheet (oldOf table sheet) ≡ oldsheetText table sheet
-unfolding printsMoved oldsheetText
+pub oldsheet-is : (table sheet : List ℕ) → printsMoved table sheet (formOf false table sheet) ≡ oldsheetText table sheet
+unfolding printsMoved oldsheetText formOf pick
 oldsheet-is table sheet = refl
 
 module _ (table sheet whole : List ℕ) (number : ℕ) (e : number ≡ openNumber table sheet) where

@@ -3,7 +3,7 @@ use Prim.Native.Nat.{ℕ, _+_, _-_, _≤_, _<_}
 use native.Mathlib.Nat.{zero-add}
 use native.Mathlib.Omega.{arith}
 use mathlib.Core.Path.{_≡_, refl, sym, ap, _∙_}
-use mathlib.Core.Bool.{true, _&&_}
+use mathlib.Core.Bool.{Bool, true, false, _&&_}
 use mathlib.Core.List.{List, _++_}
 use lib.Dec.{leb, eqb}
 use lib.ListN.{length, take, drop, replicate, length-replicate, take-append-drop}
@@ -31,6 +31,18 @@ use Rattle.board.specs.Open.{recordOf, nameOf, openNumber, boardReading}
 use Rattle.board.specs.LawsOpen.{name-cut, read-number, sheet-words}
 use Rattle.moves.specs.Move.{moveNumber, newOf, oldOf, moved, movedText}
 use Rattle.moves.specs.LawsMove.{foundNumber, lifted-is, move-refused, move-found, move-there, Finds, finds, move-words, Moved, moved-written}
+
+-- the sheet in the new form, or in the old one
+unfoldable pub formOf : (new : Bool) (table text : List ℕ) → List ℕ
+formOf new table text = pick new (newOf table text) (oldOf table text)
+
+pub form-new : (new : Bool) (table text : List ℕ) → new ≡ true → newOf table text ≡ formOf new table text
+unfolding formOf
+form-new new table text y = sym (pick-true new _ _ y)
+
+pub form-old : (new : Bool) (table text : List ℕ) → new ≡ false → oldOf table text ≡ formOf new table text
+unfolding formOf
+form-old new table text f = sym (pick-false new _ _ f)
 
 -- what reading a sheet leaves of a buffer: its words from the start on; a refusal leaves all of it
 unfoldable pub wordsLeft : (table text before : List ℕ) → List ℕ
@@ -207,3 +219,7 @@ module _ (table text : List ℕ) (number : ℕ) (e : number ≡ moveNumber table
 
           whole : newWrittenText given name (take (d .words + readingTail) words) out ≡ pick (eqb (w .number) 0) (sets out 0 (newOf table text)) out
           whole = unfold newWrittenText in λ i. pick (eqb (sym p i .number) 0) (sets out 0 (new-text i)) out
+
+-- an answer, told of the form
+pub moved-as : (number : ℕ) (whole form out : List ℕ) (w : Written) (after : List ℕ) → whole ≡ form → Moved number whole out w after → Moved number form out w after
+moved-as number whole form out w after e m = (m .0 ∙ ap (λ l. moved number l out) e, m .1 ∙ ap (λ l. movedText number l out) e)

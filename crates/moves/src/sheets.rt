@@ -16,7 +16,7 @@ ghost use Rattle.sheet.specs.FirstLine.{firstLine};
 ghost use Rattle.sheet.specs.LawsRead.{mostReading};
 ghost use Rattle.board.specs.Open.{recordOf};
 ghost use Rattle.moves.specs.Move.{moveNumber, newOf, oldOf, moved, movedText};
-ghost use Rattle.moves.specs.LawsWords.{wordsLeft};
+ghost use Rattle.moves.specs.LawsWords.{formOf, wordsLeft};
 
 // The most words that a reading has: a move serves every record.
 const MOST_READING: usize = (MOST_WORDS as usize) + READING_TAIL;
@@ -24,6 +24,20 @@ const MOST_READING: usize = (MOST_WORDS as usize) + READING_TAIL;
 // Writes a sheet in the new form: 15, 14, 16, 14, 18, 19 or 26 where it cannot, and then nothing is written.
 pub fn to_new(table: &[u8], text: &[u8], out: &mut [u8]) -> Written
     ensures { λ r. ⌜ (r ≡ moved (moveNumber (now (table .entry)) (now (text .entry))) (newOf (now (table .entry)) (now (text .entry))) (now (out .entry))) × (now (out .exit) ≡ movedText (moveNumber (now (table .entry)) (now (text .entry))) (newOf (now (table .entry)) (now (text .entry))) (now (out .entry))) ⌝ }
+{
+    move_to(true, table, text, out)
+}
+
+// Writes a sheet in the old form: 15, 14, 16, 14, 18, 19 or 26 where it cannot, and then nothing is written.
+pub fn to_old(table: &[u8], text: &[u8], out: &mut [u8]) -> Written
+    ensures { λ r. ⌜ (r ≡ moved (moveNumber (now (table .entry)) (now (text .entry))) (oldOf (now (table .entry)) (now (text .entry))) (now (out .entry))) × (now (out .exit) ≡ movedText (moveNumber (now (table .entry)) (now (text .entry))) (oldOf (now (table .entry)) (now (text .entry))) (now (out .entry))) ⌝ }
+{
+    move_to(false, table, text, out)
+}
+
+// Writes a sheet in the new form or in the old one.
+pub(crate) fn move_to(new: bool, table: &[u8], text: &[u8], out: &mut [u8]) -> Written
+    ensures { λ r. ⌜ (r ≡ moved (moveNumber (now (table .entry)) (now (text .entry))) (formOf new (now (table .entry)) (now (text .entry))) (now (out .entry))) × (now (out .exit) ≡ movedText (moveNumber (now (table .entry)) (now (text .entry))) (formOf new (now (table .entry)) (now (text .entry))) (now (out .entry))) ⌝ }
 {
     let mut words = [0u16; MOST_READING];
     let opened = open_sheet(table, text, &mut words);
@@ -38,24 +52,9 @@ pub fn to_new(table: &[u8], text: &[u8], out: &mut [u8]) -> Written
     let device = opened.device;
     let count = (device.words as usize) + READING_TAIL;
     let named = with_id(device, text);
-    sheetwrite::write_new_sheet(named, &table[at..end], &words[..count], out)
-}
-
-// Writes a sheet in the old form: 15, 14, 16, 14, 18, 19 or 26 where it cannot, and then nothing is written.
-pub fn to_old(table: &[u8], text: &[u8], out: &mut [u8]) -> Written
-    ensures { λ r. ⌜ (r ≡ moved (moveNumber (now (table .entry)) (now (text .entry))) (oldOf (now (table .entry)) (now (text .entry))) (now (out .entry))) × (now (out .exit) ≡ movedText (moveNumber (now (table .entry)) (now (text .entry))) (oldOf (now (table .entry)) (now (text .entry))) (now (out .entry))) ⌝ }
-{
-    let mut words = [0u16; MOST_READING];
-    let opened = open_sheet(table, text, &mut words);
-    if opened.number != 0 {
-        return Written {
-            number: opened.number,
-            length: 0,
-        };
+    if new {
+        return sheetwrite::write_new_sheet(named, &table[at..end], &words[..count], out);
     }
-    let device = opened.device;
-    let count = (device.words as usize) + READING_TAIL;
-    let named = with_id(device, text);
     sheetwrite::write_sheet(named, &words[..count], out)
 }
 

@@ -1,6 +1,6 @@
 -- Laws of line 1: what its test tells in each form, what the code's parts come to, and that what is written in either form is read back.
 use Prim.Native.Nat.{ℕ, suc, _+_, _-_, _≤_, _<_}
-use native.Mathlib.Nat.{zero-add}
+use native.Mathlib.Nat.{zero-add, not-suc-le-zero, le-of-suc-le-suc}
 use native.Mathlib.Omega.{arith}
 use native.Mathlib.Decide.{decLt}
 use mathlib.Core.Path.{_≡_, refl, sym, ap, _∙_}
@@ -8,7 +8,7 @@ use mathlib.Core.Bool.{Bool, true, false, _&&_}
 use mathlib.Core.List.{List, [], _∷_, _++_, append-assoc}
 use lib.Dec.{ltb, leb, eqb}
 use lib.ListN.{length, getD, take, drop, length-append, length-drop, take-append-drop}
-use lib.Seq.{take-length, length-take-le, take-append-seam, drop-append-seam, drop-append-add}
+use lib.Seq.{getD-drop, take-length, length-take-le, take-append-seam, drop-append-seam, drop-append-add}
 use borrow.Author.Tests.{lt-ltb, ltb-true, eq-eqb, eqb-true, ne-eqb}
 use Rattle.bytes.specs.Bytes.{indexOf, indexAfter, slice}
 use Rattle.words.specs.Choice.{pick}
@@ -97,6 +97,15 @@ index-within m (c ∷ l) = by (eqb c m) (index-within m l)
     by : (t : Bool) → indexOf m l ≤ length l → indexAfter t (indexOf m l) ≤ suc (length l)
     by true h = omega arith
     by false h = omega arith
+
+index-here : (m : ℕ) (l : List ℕ) → indexOf m l < length l → getD l (indexOf m l) 0 ≡ m
+unfolding indexOf indexAfter
+index-here m [] h = absurd (not-suc-le-zero h)
+index-here m (c ∷ l) h = by (eqb c m) refl h (index-here m l)
+  where
+    by : (t : Bool) → eqb c m ≡ t → indexAfter t (indexOf m l) < suc (length l) → (indexOf m l < length l → getD l (indexOf m l) 0 ≡ m) → getD (c ∷ l) (indexAfter t (indexOf m l)) 0 ≡ m
+    by true e p ih = eqb-true c m e
+    by false e p ih = ih (le-of-suc-le-suc p)
 
 -- a byte that is not 0 stands within the text
 inside : (t : List ℕ) (at c : ℕ) → getD t at 0 ≡ c → 0 < c → at < length t
@@ -315,6 +324,12 @@ module _ (t : List ℕ) (first : getD t 4 0 ≡ tab) (end : ℕ) (found : end �
   unfolding sumIn
   sum-there = ap (λ n. wordBy capitalOf t (n + 1)) (sym ends)
 
+  -- a search that ends within the text found the tab
+  tab-there : end < length t → getD t end 0 ≡ tab
+  tab-there h =
+      let short : indexOf tab (drop 5 t) < length (drop 5 t) = rw length-drop (omega (arith, at, five-long t first)) in
+      ap (λ n. getD t n 0) at ∙ (sym (getD-drop 5 t (indexOf tab (drop 5 t)) 0) ∙ index-here tab (drop 5 t) short)
+
   is-new-here : isNew t ≡ true
   unfolding isNew
   is-new-here = eq-eqb (getD t 4 0) tab first
@@ -330,41 +345,37 @@ module _ (t : List ℕ) (first : getD t 4 0 ≡ tab) (end : ℕ) (found : end �
     head-no-sum h = no-head t (fails (lineOk t) (λ e. let s : sumIn t < 65536 = tells e .sum-small in omega (arith, sum-there)))
 
     module _ (sum : ℕ) (is : sum ≡ wordBy capitalOf t (end + 1)) (small-sum : wordBy capitalOf t (end + 1) < 65536) where
-      pub head-no-tab : eqb (getD t end 0) tab ≡ false → HeadOf t false false 0 5 0 0
-      head-no-tab f = no-head t (fails (lineOk t) (λ e. true-not-false (eq-eqb (getD t end 0) tab (ap (λ n. getD t n 0) (sym ends) ∙ tells e .next-tab)) f))
+      lf-at : lineOk t ≡ true → getD t (end + 5) 0 ≡ lf
+      lf-at e =
+          let place : end + 5 ≡ 5 + length (nameIn t) + 1 + 4 = omega (arith, ends) in
+          ap (λ n. getD t n 0) place ∙ tells e .end-here
 
-      module _ (tabbed : eqb (getD t end 0) tab ≡ true) where
-        lf-at : lineOk t ≡ true → getD t (end + 5) 0 ≡ lf
-        lf-at e =
-            let place : end + 5 ≡ 5 + length (nameIn t) + 1 + 4 = omega (arith, ends) in
-            ap (λ n. getD t n 0) place ∙ tells e .end-here
+      pub head-no-end : eqb (getD t (end + 5) 0) lf ≡ false → HeadOf t false false 0 5 0 0
+      head-no-end f = no-head t (fails (lineOk t) (λ e. true-not-false (eq-eqb (getD t (end + 5) 0) lf (lf-at e)) f))
 
-        pub head-no-end : eqb (getD t (end + 5) 0) lf ≡ false → HeadOf t false false 0 5 0 0
-        head-no-end f = no-head t (fails (lineOk t) (λ e. true-not-false (eq-eqb (getD t (end + 5) 0) lf (lf-at e)) f))
-
-        pub head-new : eqb (getD t (end + 5) 0) lf ≡ true → (id : ℕ) → id ≡ wordBy capitalOf t 0 → id < 0x4000 → HeadOf t true true id end sum (end + 6)
-        head-new e id same small =
-            let last : getD t (end + 5) 0 ≡ lf = eqb-true (getD t (end + 5) 0) lf e in
-            let short : end + 5 < length t = inside t (end + 5) lf last (omega arith) in
-            let place : end + 5 ≡ 5 + length (nameIn t) + 1 + 4 = omega (arith, ends) in
-            let parts : NewIs t = record {
-              first-tab = first;
-              name-ok = ap nameOk (sym name-there) ∙ named;
-              sum-small = rw sum-there at small-sum;
-              next-tab = ap (λ n. getD t n 0) ends ∙ eqb-true (getD t end 0) tab tabbed;
-              end-here = ap (λ n. getD t n 0) (sym place) ∙ last;
-            } in
-            record {
-              test = sym (line-new t (rw same at small) parts);
-              form = λ q. sym is-new-here;
-              id-is = λ q. same;
-              size-is = λ q. sym (ap length (is-new t is-new-here) ∙ (length-new (idIn t) (nameIn t) (sumIn t) ∙ omega (arith, ends)));
-              size-in = omega arith;
-              end-from = end-low;
-              end-in = λ q y. end-high;
-              name-is = λ q y. name-there;
-              sum-is = λ q y. is ∙ sum-there;
-            }
+      pub head-new : eqb (getD t (end + 5) 0) lf ≡ true → (id : ℕ) → id ≡ wordBy capitalOf t 0 → id < 0x4000 → HeadOf t true true id end sum (end + 6)
+      head-new e id same small =
+          let last : getD t (end + 5) 0 ≡ lf = eqb-true (getD t (end + 5) 0) lf e in
+          let short : end + 5 < length t = inside t (end + 5) lf last (omega arith) in
+          let place : end + 5 ≡ 5 + length (nameIn t) + 1 + 4 = omega (arith, ends) in
+          let parts : NewIs t = record {
+            first-tab = first;
+            name-ok = ap nameOk (sym name-there) ∙ named;
+            sum-small = rw sum-there at small-sum;
+            next-tab = ap (λ n. getD t n 0) ends ∙ tab-there (omega arith);
+            end-here = ap (λ n. getD t n 0) (sym place) ∙ last;
+          } in
+          record {
+            test = sym (line-new t (rw same at small) parts);
+            form = λ q. sym is-new-here;
+            id-is = λ q. same;
+            size-is = λ q. sym (ap length (is-new t is-new-here) ∙ (length-new (idIn t) (nameIn t) (sumIn t) ∙ omega (arith, ends)));
+            size-in = omega arith;
+            end-from = end-low;
+            end-in = λ q y. end-high;
+            name-is = λ q y. name-there;
+            sum-is = λ q y. is ∙ sum-there;
+          }
 
 -- ---- the answer of the call
 

@@ -66,9 +66,6 @@ fn read_fields(text: &[u8], id: u16) -> Head
     if 65536 <= sum {
         return NO_LINE;
     }
-    if byte_is(text, end, TAB) {} else {
-        return NO_LINE;
-    }
     if byte_is(text, end + 5, LF) {} else {
         return NO_LINE;
     }

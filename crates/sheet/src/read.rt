@@ -86,11 +86,13 @@ fn judge_fields(d: Device, name: &[u8], text: &[u8], first: Head) -> u8
     ensures { λ r. ⌜ r ≡ sheetNumber d (now (name .entry)) (now (text .entry)) ⌝ }
 {
     let end = first.end;
-    if same(&text[5..end], name) {} else {
+    let named = same(&text[5..end], name);
+    let at = first.size;
+    let own = sum_in(d, &text[at..]);
+    if named {} else {
         return 18;
     }
-    let at = first.size;
-    if sum_in(d, &text[at..]) != first.sum {
+    if own != first.sum {
         return 19;
     }
     0

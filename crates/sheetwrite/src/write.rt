@@ -52,13 +52,16 @@ pub fn write_new_sheet(d: Device, name: &[u8], reading: &[u16], out: &mut [u8]) 
     if summed.number != 0 {
         return NO_READING;
     }
-    let length = 11 + name.len() + body_length(d.words);
-    if out.len() < length {
+    let whole = 11 + name.len() + body_length(d.words);
+    if out.len() < whole {
         return NO_ROOM;
     }
     put_first(out, d.id, name, summed.sum);
     put_body(out, 11 + name.len(), d.words, reading);
-    Written { number: 0, length }
+    Written {
+        number: 0,
+        length: whole,
+    }
 }
 
 // A record, or a name, that breaks the rules.

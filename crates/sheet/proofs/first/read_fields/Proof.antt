@@ -2,7 +2,7 @@
 use denote.Ref.{now}
 use mathlib.Core.Path.{sym, _∙_}
 use native.Mathlib.Omega.{arith}
-use Rattle.sheet.specs.LawsFirstLine.{five-long, head-no-name, head-no-sum, head-no-tab, head-no-end, head-new}
+use Rattle.sheet.specs.LawsFirstLine.{five-long, head-no-name, head-no-sum, head-no-end, head-new}
 use borrow.Author.Needs.{needs}
 use Rattle.sheet.proofs.first.read_fields.Statement.{statement}
 use Rattle.sheet.proofs.first.read_fields.Tie as tie
@@ -34,29 +34,23 @@ capital-word-requires c κs = search needs
 returns-2 : tie.Need-returns-2
 returns-2 c = head-no-sum _ (c .before .before .before .before .before .before .before .pre .2) _ (c .before .before .before .before .before .find .ensures .0) (sym (c .before .before .before .is-name .ensures) ∙ (c .before .before .if1 .taken)) (omega arith)
 
+add-byte-is : tie.Need-add-byte-is
+add-byte-is c = search needs
+
 byte-is-requires : tie.Need-byte-is-requires
 byte-is-requires c κs = search needs
 
 returns-3 : tie.Need-returns-3
-returns-3 c = head-no-tab _ (c .before .before .before .before .before .before .before .before .before .pre .2) _ (c .before .before .before .before .before .before .before .find .ensures .0) (sym (c .before .before .before .before .before .is-name .ensures) ∙ (c .before .before .before .before .if1 .taken)) _ (c .before .before .before .capital-word .ensures) (omega arith) (sym (c .before .byte-is .ensures) ∙ (c .if3 .left))
+returns-3 c = head-no-end _ (c .before .before .before .before .before .before .before .before .before .pre .2) _ (c .before .before .before .before .before .before .before .find .ensures .0) (sym (c .before .before .before .before .before .is-name .ensures) ∙ (c .before .before .before .before .if1 .taken)) _ (c .before .before .before .capital-word .ensures) (omega arith) (sym (c .before .byte-is .ensures) ∙ (c .if3 .left))
 
-add-byte-is : tie.Need-add-byte-is
-add-byte-is c = search needs
-
-byte-is-requires-2 : tie.Need-byte-is-requires-2
-byte-is-requires-2 c κs = search needs
-
-returns-4 : tie.Need-returns-4
-returns-4 c = head-no-end _ (c .before .before .before .before .before .before .before .before .before .before .before .pre .2) _ (c .before .before .before .before .before .before .before .before .before .find .ensures .0) (sym (c .before .before .before .before .before .before .before .is-name .ensures) ∙ (c .before .before .before .before .before .before .if1 .taken)) _ (c .before .before .before .before .before .capital-word .ensures) (omega arith) (sym (c .before .before .before .byte-is .ensures) ∙ (c .before .before .if3 .taken)) (sym (c .before .byte-is2 .ensures) ∙ (c .if4 .left))
-
-cast-t13 : tie.Need-cast-t13
-cast-t13 c = search needs
+cast-t12 : tie.Need-cast-t12
+cast-t12 c = search needs
 
 add-t5 : tie.Need-add-t5
 add-t5 c = search needs
 
-returns-5 : tie.Need-returns-5
-returns-5 c = head-new _ (c .before .before .before .before .before .before .before .before .before .before .before .pre .2) _ (c .before .before .before .before .before .before .before .before .before .find .ensures .0) (sym (c .before .before .before .before .before .before .before .is-name .ensures) ∙ (c .before .before .before .before .before .before .if1 .taken)) _ (c .before .before .before .before .before .capital-word .ensures) (omega arith) (sym (c .before .before .before .byte-is .ensures) ∙ (c .before .before .if3 .taken)) (sym (c .before .byte-is2 .ensures) ∙ (c .if4 .taken)) _ (c .before .before .before .before .before .before .before .before .before .before .before .pre .0) (c .before .before .before .before .before .before .before .before .before .before .before .pre .1)
+returns-4 : tie.Need-returns-4
+returns-4 c = head-new _ (c .before .before .before .before .before .before .before .before .before .pre .2) _ (c .before .before .before .before .before .before .before .find .ensures .0) (sym (c .before .before .before .before .before .is-name .ensures) ∙ (c .before .before .before .before .if1 .taken)) _ (c .before .before .before .capital-word .ensures) (omega arith) (sym (c .before .byte-is .ensures) ∙ (c .if3 .taken)) _ (c .before .before .before .before .before .before .before .before .before .pre .0) (c .before .before .before .before .before .before .before .before .before .pre .1)
 
 pub read-fields-spec : {M : Type 1} → statement M
 read-fields-spec =
@@ -71,11 +65,9 @@ read-fields-spec =
     add-capital-word
     capital-word-requires
     returns-2
+    add-byte-is
     byte-is-requires
     returns-3
-    add-byte-is
-    byte-is-requires-2
-    returns-4
-    cast-t13
+    cast-t12
     add-t5
-    returns-5)
+    returns-4)

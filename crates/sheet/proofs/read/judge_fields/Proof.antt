@@ -19,9 +19,6 @@ part-same-end c = omega (arith, fields-end-in _ (now (c .before .before .args .n
 same-requires : tie.Need-same-requires
 same-requires c κs = search needs
 
-returns : tie.Need-returns
-returns c = fields-18 _ _ _ _ _ _ _ (c .before .before .before .before .before .pre .1) (c .before .before .before .before .before .pre .2) _ (c .before .same .ensures) (c .if1 .left)
-
 sub-sum-in : tie.Need-sub-sum-in
 sub-sum-in c = search needs
 
@@ -32,13 +29,16 @@ part-sum-in-end : tie.Need-part-sum-in-end
 part-sum-in-end c = search needs
 
 sum-in-requires : tie.Need-sum-in-requires
-sum-in-requires c κs = (c .before .before .before .before .before .before .pre .0, fields-body _ (now (c .before .before .before .before .before .before .args .name)) _ _ _ _ _ (c .before .before .before .before .before .before .pre .1) (c .before .before .before .before .before .before .pre .2))
+sum-in-requires c κs = (c .before .before .before .before .before .pre .0, fields-body _ (now (c .before .before .before .before .before .args .name)) _ _ _ _ _ (c .before .before .before .before .before .pre .1) (c .before .before .before .before .before .pre .2))
+
+returns : tie.Need-returns
+returns c = fields-18 _ _ _ _ _ _ _ (c .before .before .before .before .before .before .before .pre .1) (c .before .before .before .before .before .before .before .pre .2) _ (c .before .before .before .same .ensures) (c .if1 .left)
 
 returns-2 : tie.Need-returns-2
-returns-2 c = fields-19 _ _ _ _ _ _ _ (c .before .before .before .before .before .before .before .before .before .pre .1) (c .before .before .before .before .before .before .before .before .before .pre .2) _ (c .before .before .before .before .before .same .ensures) (c .before .before .before .before .if1 .taken) _ (c .before .before .sum-in .ensures) (c .if2 .taken)
+returns-2 c = fields-19 _ _ _ _ _ _ _ (c .before .before .before .before .before .before .before .before .before .pre .1) (c .before .before .before .before .before .before .before .before .before .pre .2) _ (c .before .before .before .before .before .same .ensures) (c .before .before .if1 .taken) _ (c .before .before .before .sum-in .ensures) (c .if2 .taken)
 
 returns-3 : tie.Need-returns-3
-returns-3 c = fields-0 _ _ _ _ _ _ _ (c .before .before .before .before .before .before .before .before .before .pre .1) (c .before .before .before .before .before .before .before .before .before .pre .2) _ (c .before .before .before .before .before .same .ensures) (c .before .before .before .before .if1 .taken) _ (c .before .before .sum-in .ensures) (c .if2 .left)
+returns-3 c = fields-0 _ _ _ _ _ _ _ (c .before .before .before .before .before .before .before .before .before .pre .1) (c .before .before .before .before .before .before .before .before .before .pre .2) _ (c .before .before .before .before .before .same .ensures) (c .before .before .if1 .taken) _ (c .before .before .before .sum-in .ensures) (c .if2 .left)
 
 pub judge-fields-spec : {M : Type 1} → statement M
 judge-fields-spec =
@@ -48,10 +48,10 @@ judge-fields-spec =
     part-same-start
     part-same-end
     same-requires
-    returns
     sub-sum-in
     part-sum-in-start
     part-sum-in-end
     sum-in-requires
+    returns
     returns-2
     returns-3)

@@ -30,14 +30,14 @@ checksum-requires c κs = search needs
 returns-3 : tie.Need-returns-3
 returns-3 c = new-no-reading _ _ _ _ (ok-of-judged _ (sym (c .before .before .before .before .before .before .judge .ensures) ∙ (c .before .before .before .before .before .if1 .left))) (sym (c .before .before .before .before .is-name .ensures) ∙ (c .before .before .before .if2 .taken)) _ (c .before .before .checksum .ensures) (c .if3 .taken)
 
-add-length : tie.Need-add-length
-add-length c = search needs
+add-whole : tie.Need-add-whole
+add-whole c = search needs
 
 body-length-requires : tie.Need-body-length-requires
 body-length-requires c κs = search needs
 
-add-length-2 : tie.Need-add-length-2
-add-length-2 c = search needs
+add-whole-2 : tie.Need-add-whole-2
+add-whole-2 c = search needs
 
 returns-4 : tie.Need-returns-4
 unfolding newLength
@@ -69,9 +69,9 @@ write-new-sheet-spec =
     returns-2
     checksum-requires
     returns-3
-    add-length
+    add-whole
     body-length-requires
-    add-length-2
+    add-whole-2
     returns-4
     put-first-requires
     add-put-body
