@@ -55,6 +55,27 @@ uint16_t about_id(uint16_t id, uint16_t mask)
     }
 }
 
+size_t any_name(uint8_t *to)
+{
+    size_t length = below(3) ? 1 + below(TICKMALLET_MOST_NAME) : below(2) ? 1 : TICKMALLET_MOST_NAME;
+    for (size_t i = 0; i < length; i++)
+        to[i] = (uint8_t)(0x20 + below(0x5f));
+    return length;
+}
+
+size_t no_name(uint8_t *name, size_t length)
+{
+    static const uint8_t others[8] = {0x1f, 0x7f, '\t', '\n', '\r', 0x00, 0x80, 0xff};
+    switch (below(4)) {
+    case 0: return 0;
+    case 1:
+        for (size_t i = length; i <= TICKMALLET_MOST_NAME; i++)
+            name[i] = 'A';
+        return TICKMALLET_MOST_NAME + 1;
+    default: name[below((uint32_t)length)] = others[below(8)]; return length;
+    }
+}
+
 /* The record's own masks, or others: with few spare bits, about seven, nearly all. */
 static void any_masks(tickmallet_device *d)
 {
@@ -118,6 +139,9 @@ static void fill_board(struct board *b, const tickmallet_device *sound)
     b->device = *sound;
     any_masks(&b->device);
     b->words = sound->words;
+    b->name_len = any_name(b->name);
+    if (!below(24))
+        b->name_len = no_name(b->name, b->name_len);
     any_reading(b);
     any_image(b);
     b->image[b->words + 9] = b->image[b->words + 10] = 0xffff;

@@ -4,14 +4,18 @@
 
 #include "both.h"
 
+enum { MOST_SHEET = TICKMALLET_NEW_SHEET_BYTES(TICKMALLET_MOST_WORDS, TICKMALLET_MOST_NAME) };
+
 struct board {
     tickmallet_device device; /* sound or not */
     size_t words;             /* P of the lists, whatever the record says */
+    uint8_t name[TICKMALLET_MOST_NAME + 1];
+    size_t name_len; /* of a name that is too long, one more than the most */
     uint16_t image[MOST_LIST], reading[MOST_LIST]; /* the reading with its two calibration words */
 };
 
 /* A board of at most 96 program words, one of 8192 up to the most, or one of the most, with any masks; one record in twelve is damaged.
-   Word 8006h fits the record nearly always, and is often not its ID. */
+   Word 8006h fits the record nearly always, and is often not its ID. One name in twenty-four is none. */
 void small_board(struct board *b);
 void middle_board(struct board *b);
 void large_board(struct board *b);
@@ -27,6 +31,20 @@ uint16_t fitting(uint16_t id, uint16_t mask);
 
 /* Such a word; in one case of eight it has one bit turned, has a bit above the 14, or is any word. */
 uint16_t about_id(uint16_t id, uint16_t mask);
+
+/* A name of 1 to 16 characters, often the shortest or the longest; its length. Then one that is none, made of such a name. */
+size_t any_name(uint8_t *to);
+size_t no_name(uint8_t *name, size_t length);
+
+/* The text of a sheet, with room for what a damage puts in. */
+extern uint8_t sheet[MOST_SHEET + 128];
+
+/* Puts the sheet of the board's reading there, of either form, with an ID that fits the record nearly always. Its length; 0 if the record or the
+   reading is refused. A name that is none stands there as it is. */
+size_t any_sheet(const struct board *b);
+
+/* Breaks it in one way, the first line in every other case; some of these leave a sheet with another ID, name or sum, or of other words. */
+size_t damaged_sheet(const struct board *b, size_t n);
 
 /* A length that is right but for one case in twenty. */
 size_t about(size_t n);

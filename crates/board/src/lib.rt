@@ -72,9 +72,9 @@ pub fn open_board(table: &[u8], sheet: &[u8], reading: &mut [u16; MOST_READING])
     let device = opened.device;
     let at = opened.name_at;
     let end = at + opened.name_len;
-    let number = read_front(device, &table[at..end], sheet, reading);
+    let read = read_front(device, &table[at..end], sheet, reading);
     Opened {
-        number,
+        number: read,
         device,
         name_at: at,
         name_len: opened.name_len,

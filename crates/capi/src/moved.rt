@@ -14,9 +14,9 @@ pub extern "C" fn tickmallet_to_new(
     ensures { λ r. ⌜ (sheetAnswer r (now (length .exit)) ≡ moved (moveNumber (now (table .entry)) (now (text .entry))) (newOf (now (table .entry)) (now (text .entry))) (now (out .entry)))
         × (now (out .exit) ≡ movedText (moveNumber (now (table .entry)) (now (text .entry))) (newOf (now (table .entry)) (now (text .entry))) (now (out .entry))) ⌝ }
 {
-    let w = moves::to_new(table, text, out);
-    *length = w.length;
-    w.number
+    let new = moves::to_new(table, text, out);
+    *length = new.length;
+    new.number
 }
 
 // A sheet moved to the old form.
@@ -30,7 +30,7 @@ pub extern "C" fn tickmallet_to_old(
     ensures { λ r. ⌜ (sheetAnswer r (now (length .exit)) ≡ moved (moveNumber (now (table .entry)) (now (text .entry))) (oldOf (now (table .entry)) (now (text .entry))) (now (out .entry)))
         × (now (out .exit) ≡ movedText (moveNumber (now (table .entry)) (now (text .entry))) (oldOf (now (table .entry)) (now (text .entry))) (now (out .entry))) ⌝ }
 {
-    let w = moves::to_old(table, text, out);
-    *length = w.length;
-    w.number
+    let old = moves::to_old(table, text, out);
+    *length = old.length;
+    old.number
 }
