@@ -55,7 +55,7 @@ uint16_t about_id(uint16_t id, uint16_t mask)
     }
 }
 
-size_t any_name(uint8_t *to)
+size_t sound_name(uint8_t *to)
 {
     size_t length = below(3) ? 1 + below(TICKMALLET_MOST_NAME) : below(2) ? 1 : TICKMALLET_MOST_NAME;
     for (size_t i = 0; i < length; i++)
@@ -139,7 +139,7 @@ static void fill_board(struct board *b, const tickmallet_device *sound)
     b->device = *sound;
     any_masks(&b->device);
     b->words = sound->words;
-    b->name_len = any_name(b->name);
+    b->name_len = sound_name(b->name);
     if (!below(24))
         b->name_len = no_name(b->name, b->name_len);
     any_reading(b);

@@ -33,7 +33,7 @@ uint16_t fitting(uint16_t id, uint16_t mask);
 uint16_t about_id(uint16_t id, uint16_t mask);
 
 /* A name of 1 to 16 characters, often the shortest or the longest; its length. Then one that is none, made of such a name. */
-size_t any_name(uint8_t *to);
+size_t sound_name(uint8_t *to);
 size_t no_name(uint8_t *name, size_t length);
 
 /* The text of a sheet, with room for what a damage puts in. */

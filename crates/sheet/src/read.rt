@@ -86,13 +86,14 @@ fn judge_fields(d: Device, name: &[u8], text: &[u8], first: Head) -> u8
     ensures { λ r. ⌜ r ≡ sheetNumber d (now (name .entry)) (now (text .entry)) ⌝ }
 {
     let end = first.end;
-    let named = same(&text[5..end], name);
     let at = first.size;
+    let sum = first.sum;
+    let named = same(&text[5..end], name);
     let own = sum_in(d, &text[at..]);
     if named {} else {
         return 18;
     }
-    if own != first.sum {
+    if own != sum {
         return 19;
     }
     0
