@@ -9,6 +9,7 @@ static struct board board;
 static void agree_board(void)
 {
     agree_sheets(&board);
+    agree_moves(&board);
     agree_hex(&board);
     agree_streams(&board);
     agree_judgements(&board);
@@ -37,13 +38,16 @@ int main(void)
     }
     agree_decimals();
     agree_masks();
-    agree_first_lines();
+    agree_first_ids();
     agree_id_words();
+    agree_first_lines();
+    agree_moved();
     agree_larger(middle_board, MIDDLE, "each call takes boards of 8192 words and more");
     agree_larger(large_board, LARGE, "each call takes boards of the largest device");
     agree_long_hex();
     agree_long_streams();
     agree_bounds();
     agree_largest();
+    agree_stack();
     return !all_hold();
 }

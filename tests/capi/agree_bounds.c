@@ -1,4 +1,5 @@
 /* The sizes in tickmallet.h: what is said to be just so long is, and each bound is reached where it can be. */
+#include <stdio.h>
 #include <string.h>
 
 #include "agree.h"
@@ -7,7 +8,8 @@ enum { P = TICKMALLET_MOST_WORDS };
 
 /* arrays of these sizes, as a program would have them */
 static uint16_t image[TICKMALLET_IMAGE_WORDS(P)], reading[TICKMALLET_READING_WORDS(P)], cells[TICKMALLET_CELLS(P)], words[TICKMALLET_READ_BACK_WORDS(P)];
-static uint8_t stream[TICKMALLET_STREAM_BYTES(P, 8)], reads[TICKMALLET_READ_BACK_BYTES(P)], sheet[TICKMALLET_SHEET_BYTES(P)], hex[TICKMALLET_HEX_BYTES(P)];
+static uint8_t stream[TICKMALLET_STREAM_BYTES(P, 8)], reads[TICKMALLET_READ_BACK_BYTES(P)], hex[TICKMALLET_HEX_BYTES(P)];
+static uint8_t old_sheet[TICKMALLET_SHEET_BYTES(P)], new_sheet[TICKMALLET_NEW_SHEET_BYTES(P, TICKMALLET_MOST_NAME)];
 
 /* A board that is 3FFFh all over, and an image that gives another value to every word that can be given. */
 static void all_different(size_t p)
@@ -40,14 +42,36 @@ static void streams(const tickmallet_device *d)
           "it does not go into less");
 }
 
+static const uint8_t name[TICKMALLET_MOST_NAME + 1] = "DEVICE-OF-SIXTEEN";
+
 static void sheets(const tickmallet_device *d)
 {
     size_t p = d->words, length;
     all_different(p);
-    holds(tickmallet_write_sheet(d, reading, TICKMALLET_READING_WORDS(p), sheet, TICKMALLET_SHEET_BYTES(p), &length) == 0 && length == TICKMALLET_SHEET_BYTES(p),
-          "a sheet has TICKMALLET_SHEET_BYTES");
-    holds(tickmallet_write_sheet(d, reading, TICKMALLET_READING_WORDS(p), sheet, TICKMALLET_SHEET_BYTES(p) - 1, &length) == 26, "it does not go into less");
-    holds(tickmallet_read_sheet(d, sheet, TICKMALLET_SHEET_BYTES(p), reading, TICKMALLET_READING_WORDS(p)) == 0, "it is read into TICKMALLET_READING_WORDS");
+    holds(tickmallet_write_sheet(d, reading, TICKMALLET_READING_WORDS(p), old_sheet, TICKMALLET_SHEET_BYTES(p), &length) == 0 &&
+              length == TICKMALLET_SHEET_BYTES(p),
+          "a sheet of the old form has TICKMALLET_SHEET_BYTES");
+    holds(tickmallet_write_sheet(d, reading, TICKMALLET_READING_WORDS(p), old_sheet, TICKMALLET_SHEET_BYTES(p) - 1, &length) == 26, "it does not go into less");
+    holds(tickmallet_read_sheet(d, name, 1, old_sheet, TICKMALLET_SHEET_BYTES(p), reading, TICKMALLET_READING_WORDS(p)) == 0,
+          "it is read into TICKMALLET_READING_WORDS");
+}
+
+/* Each call that writes a sheet of the new form, and each that reads one. */
+static void new_sheets(const tickmallet_device *d, size_t name_len)
+{
+    char line[64];
+    const uint8_t *table = (const uint8_t *)line;
+    size_t p = d->words, length, bytes = TICKMALLET_NEW_SHEET_BYTES(p, name_len), old_bytes = TICKMALLET_SHEET_BYTES(p);
+    size_t n = (size_t)snprintf(line, sizeof line, "%.*s\t3023\t%u\t%u\t3EFF\t3FF3\n", (int)name_len, (const char *)name, d->words, d->row);
+    all_different(p);
+    holds(tickmallet_write_new_sheet(d, name, name_len, reading, TICKMALLET_READING_WORDS(p), new_sheet, bytes, &length) == 0 && length == bytes,
+          "a sheet of the new form has TICKMALLET_NEW_SHEET_BYTES");
+    holds(tickmallet_write_new_sheet(d, name, name_len, reading, TICKMALLET_READING_WORDS(p), new_sheet, bytes - 1, &length) == 26, "it does not go into less");
+    holds(tickmallet_read_sheet(d, name, name_len, new_sheet, bytes, reading, TICKMALLET_READING_WORDS(p)) == 0, "it is read into TICKMALLET_READING_WORDS");
+    holds(tickmallet_to_old(table, n, new_sheet, bytes, old_sheet, old_bytes - 1, &length) == 26, "moved to the old form it does not go into less");
+    holds(tickmallet_to_old(table, n, new_sheet, bytes, old_sheet, old_bytes, &length) == 0 && length == old_bytes, "it has TICKMALLET_SHEET_BYTES");
+    holds(tickmallet_to_new(table, n, old_sheet, old_bytes, new_sheet, bytes - 1, &length) == 26, "moved to the new form it does not go into less");
+    holds(tickmallet_to_new(table, n, old_sheet, old_bytes, new_sheet, bytes, &length) == 0 && length == bytes, "it has TICKMALLET_NEW_SHEET_BYTES");
 }
 
 /* Of eight words five are given, in four runs: no block takes more text. In the last block two user IDs stand together. */
@@ -98,7 +122,8 @@ static void limits(void)
     holds(tickmallet_read_back(&more, reads, sizeof reads, &steps) == 13, "P may not be more");
     holds(TICKMALLET_MOST_STEPS(P, 8) == 73750 && sizeof stream == 221250, "updates and fresh streams of the largest device");
     holds(TICKMALLET_READ_BACK_STEPS(P) == 65554 && sizeof reads == 196662, "read-backs of the largest device");
-    holds(sizeof sheet == 184375 && sizeof hex == 458908 && sizeof hex <= TICKMALLET_MOST_HEX_READ, "texts of the largest device");
+    holds(sizeof old_sheet == 184375 && sizeof new_sheet == 184397, "sheets of the largest device");
+    holds(sizeof hex == 458908 && sizeof hex <= TICKMALLET_MOST_HEX_READ, "HEX texts of the largest device");
     holds(TICKMALLET_MOST_STEPS(d.words, d.row) == 73750 && TICKMALLET_READ_BACK_BYTES(d.words) == 196662 && TICKMALLET_HEX_BYTES(d.words) == 458908,
           "the same from the record's 16 bits");
 }
@@ -111,6 +136,8 @@ void agree_bounds(void)
         const tickmallet_device d = {0x3023, sizes[i][0], sizes[i][1], 0x3eff, 0x3ff3, 0x3fff};
         streams(&d);
         sheets(&d);
+        for (size_t name_len = 1; name_len <= TICKMALLET_MOST_NAME; name_len += 5)
+            new_sheets(&d, name_len);
         hexes(&d);
         lists(&d);
     }

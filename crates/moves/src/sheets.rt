@@ -78,9 +78,9 @@ fn open_sheet(table: &[u8], text: &[u8], words: &mut [u16]) -> Opened
     }
     let count = (device.words as usize) + READING_TAIL;
     let end = at + len;
-    let number = sheet::read_sheet(device, &table[at..end], text, &mut words[..count]);
+    let read = sheet::read_sheet(device, &table[at..end], text, &mut words[..count]);
     Opened {
-        number,
+        number: read,
         device,
         name_at: at,
         name_len: len,

@@ -15,7 +15,14 @@ open-number-requires : tie.Need-open-number-requires
 open-number-requires c κs = search needs
 
 returns : tie.Need-returns
-returns c = ((c .before .open-number .ensures) ∙ opened-by _ _ _ _ (c .before .before .before .read-id .ensures) (c .before .before .find-device .ensures), opened-device _ _ _ _ (c .before .before .before .read-id .ensures) (c .before .before .find-device .ensures), opened-at _ _ _ _ (c .before .before .before .read-id .ensures) (c .before .before .find-device .ensures), opened-len _ _ _ _ (c .before .before .before .read-id .ensures) (c .before .before .find-device .ensures))
+returns c = (
+  (c .before .open-number .ensures) ∙ opened-by _ _ _ _ (c .before .before .before .read-id .ensures) (c .before .before .find-device .ensures),
+  opened-device _ _ _ _
+      (c .before .before .before .read-id .ensures) (c .before .before .find-device .ensures),
+  opened-at _ _ _ _ (c .before .before .before .read-id .ensures) (c .before .before .find-device .ensures),
+  opened-len _ _ _ _
+      (c .before .before .before .read-id .ensures) (c .before .before .find-device .ensures),
+)
 
 pub open-record-spec : {M : Type 1} → statement M
 open-record-spec =

@@ -21,7 +21,8 @@ same-length : tie.Need-same-length
 same-length c = search needs
 
 returns : tie.Need-returns
-returns c = prints-as _ _ _ _ _ (moved-unopened _ _ _ _ (c .before .before .before .before .before .before .open-record .ensures .0) (c .before .before .before .before .if1 .taken)) (c .before .before .refusal .ensures)
+returns c = prints-as _ _ _ _ _ (moved-unopened _ _ _ _ (c .before .before .before .before .before .before .open-record .ensures .0) (c .before .before .before .before .if1 .taken))
+    (c .before .before .refusal .ensures)
 
 slice-aggregate-move-to : tie.Need-slice-aggregate-move-to
 slice-aggregate-move-to c = search needs
@@ -36,7 +37,10 @@ same-length-2 : tie.Need-same-length-2
 same-length-2 c = search needs
 
 returns-2 : tie.Need-returns-2
-returns-2 c = prints-as _ _ _ _ _ (moved-told _ _ _ _ (c .before .before .before .before .before .before .before .before .before .before .before .open-record .ensures .0) (c .before .before .before .before .before .before .before .before .before .if1 .left) 46157 (form-short _ _ _ (sym (c .before .before .before .before .before .before .before .before .before .before .before .open-record .ensures .0) ∙ (c .before .before .before .before .before .before .before .before .before .if1 .left))) _ (c .before .before .before .before .before .before .before .move-to .ensures .0) (c .before .before .before .before .if2 .taken)) (c .before .before .refusal2 .ensures)
+returns-2 c = prints-as _ _ _ _ _ (moved-told _ _ _ _ (c .before .before .before .before .before .before .before .before .before .before .before .open-record .ensures .0)
+    (c .before .before .before .before .before .before .before .before .before .if1 .left) 46157 (form-short _ _ _ (sym (c .before .before .before .before .before .before .before .before .before .before .before .open-record .ensures .0)
+    ∙ (c .before .before .before .before .before .before .before .before .before .if1 .left))) _ (c .before .before .before .before .before .before .before .move-to .ensures .0)
+    (c .before .before .before .before .if2 .taken)) (c .before .before .refusal2 .ensures)
 
 array-share-prefix-whole : tie.Need-array-share-prefix-whole
 array-share-prefix-whole c = omega (arith, length-replicate {A = ℕ} 46157 0, moved-short _ _ _ _ (c .before .before .before .before .move-to .ensures .0))
@@ -51,7 +55,10 @@ same-length-3 : tie.Need-same-length-3
 same-length-3 c = search needs
 
 returns-3 : tie.Need-returns-3
-returns-3 c = prints-as _ _ _ _ _ (moved-all _ _ _ _ (c .before .before .before .before .before .before .before .before .before .before .before .before .open-record .ensures .0) (c .before .before .before .before .before .before .before .before .before .before .if1 .left) 46157 (form-short _ _ _ (sym (c .before .before .before .before .before .before .before .before .before .before .before .before .open-record .ensures .0) ∙ (c .before .before .before .before .before .before .before .before .before .before .if1 .left))) _ (c .before .before .before .before .before .before .before .before .move-to .ensures .0) (c .before .before .before .before .before .if2 .left) _ (c .before .before .before .before .before .before .before .before .move-to .ensures .1)) (c .before .before .text .ensures)
+returns-3 c = prints-as _ _ _ _ _ (moved-all _ _ _ _ (c .before .before .before .before .before .before .before .before .before .before .before .before .open-record .ensures .0)
+    (c .before .before .before .before .before .before .before .before .before .before .if1 .left) 46157 (form-short _ _ _ (sym (c .before .before .before .before .before .before .before .before .before .before .before .before .open-record .ensures .0)
+    ∙ (c .before .before .before .before .before .before .before .before .before .before .if1 .left))) _ (c .before .before .before .before .before .before .before .before .move-to .ensures .0)
+    (c .before .before .before .before .before .if2 .left) _ (c .before .before .before .before .before .before .before .before .move-to .ensures .1)) (c .before .before .text .ensures)
 
 pub print-moved-spec : {M : Type 1} → statement M
 print-moved-spec =

@@ -19,7 +19,14 @@ lifted-requires : tie.Need-lifted-requires
 lifted-requires c κs = search needs
 
 returns : tie.Need-returns
-returns c = (found-refused _ _ _ _ (c .before .before .before .open-record .ensures .0) (c .before .lifted .ensures) (c .if1 .taken), c .before .before .before .open-record .ensures .1, left-refused _ _ (λ z. (c .if1 .taken) (found-refused _ _ _ _ (c .before .before .before .open-record .ensures .0) (c .before .lifted .ensures) (c .if1 .taken) ∙ z)) _, c .before .before .before .open-record .ensures .2, c .before .before .before .open-record .ensures .3)
+returns c = (
+  found-refused _ _ _ _ (c .before .before .before .open-record .ensures .0) (c .before .lifted .ensures) (c .if1 .taken),
+  c .before .before .before .open-record .ensures .1,
+  left-refused _ _
+      (λ z. (c .if1 .taken) (found-refused _ _ _ _ (c .before .before .before .open-record .ensures .0) (c .before .lifted .ensures) (c .if1 .taken) ∙ z)) _,
+  c .before .before .before .open-record .ensures .2,
+  c .before .before .before .open-record .ensures .3,
+)
 
 cast-count : tie.Need-cast-count
 cast-count c = search needs
@@ -28,7 +35,8 @@ add-count : tie.Need-add-count
 add-count c = search needs
 
 add-end : tie.Need-add-end
-add-end c = let h = found-inside _ (now (c .before .before .before .before .before .before .before .before .args .text)) _ _ (c .before .before .before .before .open-record .ensures .0) (c .before .before .lifted .ensures) (c .before .if1 .left) _ _ (c .before .before .before .before .open-record .ensures .2) (c .before .before .before .before .open-record .ensures .3) in search needs
+add-end c = let h = found-inside _ (now (c .before .before .before .before .before .before .before .before .args .text)) _ _ (c .before .before .before .before .open-record .ensures .0)
+    (c .before .before .lifted .ensures) (c .before .if1 .left) _ _ (c .before .before .before .before .open-record .ensures .2) (c .before .before .before .before .open-record .ensures .3) in search needs
 
 sub-read-sheet : tie.Need-sub-read-sheet
 sub-read-sheet c = search needs
@@ -37,13 +45,19 @@ part-read-sheet-start : tie.Need-part-read-sheet-start
 part-read-sheet-start c = search needs
 
 part-read-sheet-end : tie.Need-part-read-sheet-end
-part-read-sheet-end c = omega (arith, found-inside _ (now (c .before .before .before .before .before .before .before .before .args .text)) _ _ (c .before .before .before .before .open-record .ensures .0) (c .before .before .lifted .ensures) (c .before .if1 .left) _ _ (c .before .before .before .before .open-record .ensures .2) (c .before .before .before .before .open-record .ensures .3))
+part-read-sheet-end c = omega (
+  arith,
+  found-inside _ (now (c .before .before .before .before .before .before .before .before .args .text)) _ _ (c .before .before .before .before .open-record .ensures .0)
+      (c .before .before .lifted .ensures) (c .before .if1 .left) _ _ (c .before .before .before .before .open-record .ensures .2) (c .before .before .before .before .open-record .ensures .3),
+)
 
 slice-relend-prefix-read-sheet : tie.Need-slice-relend-prefix-read-sheet
-slice-relend-prefix-read-sheet c = read-room _ _ _ _ (c .before .before .before .before .before .open-record .ensures .0) (c .before .before .before .lifted .ensures) (c .before .before .if1 .left) _ (c .before .before .before .before .before .open-record .ensures .1) (now (c .before .before .before .before .before .before .before .before .before .args .words)) (c .before .before .before .before .before .before .before .before .before .pre)
+slice-relend-prefix-read-sheet c = read-room _ _ _ _ (c .before .before .before .before .before .open-record .ensures .0) (c .before .before .before .lifted .ensures) (c .before .before .if1 .left) _
+    (c .before .before .before .before .before .open-record .ensures .1) (now (c .before .before .before .before .before .before .before .before .before .args .words)) (c .before .before .before .before .before .before .before .before .before .pre)
 
 slice-aggregate-read-sheet : tie.Need-slice-aggregate-read-sheet
-slice-aggregate-read-sheet c = sym (front-long _ _ _ _ (c .before .before .before .before .before .before .open-record .ensures .0) (c .before .before .before .before .lifted .ensures) (c .before .before .before .if1 .left) _ (c .before .before .before .before .before .before .open-record .ensures .1) _ (c .before .before .before .before .before .before .before .before .before .before .pre))
+slice-aggregate-read-sheet c = sym (front-long _ _ _ _ (c .before .before .before .before .before .before .open-record .ensures .0) (c .before .before .before .before .lifted .ensures)
+    (c .before .before .before .if1 .left) _ (c .before .before .before .before .before .before .open-record .ensures .1) _ (c .before .before .before .before .before .before .before .before .before .before .pre))
 
 read-sheet-requires : tie.Need-read-sheet-requires
 read-sheet-requires c κs = search needs
@@ -52,7 +66,22 @@ same-length : tie.Need-same-length
 same-length c = search needs
 
 returns-2 : tie.Need-returns-2
-returns-2 c = (read-is _ _ _ _ (c .before .before .before .before .before .before .before .before .before .open-record .ensures .0) (c .before .before .before .before .before .before .before .lifted .ensures) (c .before .before .before .before .before .before .if1 .left) _ (c .before .before .before .before .before .before .before .before .before .open-record .ensures .1) _ (c .before .before .before .before .before .before .before .before .before .before .before .before .before .pre) _ (name-cut _ _ _ _ (c .before .before .before .before .before .before .before .before .before .open-record .ensures .2) (c .before .before .before .before .before .before .before .before .before .open-record .ensures .3)) _ (c .before .before .read-sheet .ensures .0), c .before .before .before .before .before .before .before .before .before .open-record .ensures .1, read-left _ _ _ _ (c .before .before .before .before .before .before .before .before .before .open-record .ensures .0) (c .before .before .before .before .before .before .before .lifted .ensures) (c .before .before .before .before .before .before .if1 .left) _ (c .before .before .before .before .before .before .before .before .before .open-record .ensures .1) _ (c .before .before .before .before .before .before .before .before .before .before .before .before .before .pre) _ (name-cut _ _ _ _ (c .before .before .before .before .before .before .before .before .before .open-record .ensures .2) (c .before .before .before .before .before .before .before .before .before .open-record .ensures .3)) _ (c .before .before .read-sheet .ensures .0) _ (ap (λ x. x ++ drop (c .before .before .before .before .before .before .before .before .before .open-record .result .device .words + readingTail) (now (c .before .before .before .before .before .before .before .before .before .before .before .before .before .args .words))) (c .before .before .read-sheet .ensures .1)), c .before .before .before .before .before .before .before .before .before .open-record .ensures .2, c .before .before .before .before .before .before .before .before .before .open-record .ensures .3)
+returns-2 c = (
+  read-is _ _ _ _ (c .before .before .before .before .before .before .before .before .before .open-record .ensures .0) (c .before .before .before .before .before .before .before .lifted .ensures)
+      (c .before .before .before .before .before .before .if1 .left) _ (c .before .before .before .before .before .before .before .before .before .open-record .ensures .1) _
+      (c .before .before .before .before .before .before .before .before .before .before .before .before .before .pre) _ (name-cut _ _ _ _ (c .before .before .before .before .before .before .before .before .before .open-record .ensures .2)
+      (c .before .before .before .before .before .before .before .before .before .open-record .ensures .3)) _ (c .before .before .read-sheet .ensures .0),
+  c .before .before .before .before .before .before .before .before .before .open-record .ensures .1,
+  read-left _ _ _ _
+      (c .before .before .before .before .before .before .before .before .before .open-record .ensures .0) (c .before .before .before .before .before .before .before .lifted .ensures)
+      (c .before .before .before .before .before .before .if1 .left) _ (c .before .before .before .before .before .before .before .before .before .open-record .ensures .1) _
+      (c .before .before .before .before .before .before .before .before .before .before .before .before .before .pre) _ (name-cut _ _ _ _ (c .before .before .before .before .before .before .before .before .before .open-record .ensures .2)
+      (c .before .before .before .before .before .before .before .before .before .open-record .ensures .3)) _ (c .before .before .read-sheet .ensures .0) _ (ap (λ x. x ++ drop
+      (c .before .before .before .before .before .before .before .before .before .open-record .result .device .words + readingTail) (now (c .before .before .before .before .before .before .before .before .before .before .before .before .before .args .words)))
+      (c .before .before .read-sheet .ensures .1)),
+  c .before .before .before .before .before .before .before .before .before .open-record .ensures .2,
+  c .before .before .before .before .before .before .before .before .before .open-record .ensures .3,
+)
 
 pub open-sheet-spec : {M : Type 1} → statement M
 open-sheet-spec =

@@ -32,7 +32,8 @@ capital-word-requires : tie.Need-capital-word-requires
 capital-word-requires c κs = search needs
 
 returns-2 : tie.Need-returns-2
-returns-2 c = head-no-sum _ (c .before .before .before .before .before .before .before .pre .2) _ (c .before .before .before .before .before .find .ensures .0) (sym (c .before .before .before .is-name .ensures) ∙ (c .before .before .if1 .taken)) (omega arith)
+returns-2 c = head-no-sum _ (c .before .before .before .before .before .before .before .pre .2) _ (c .before .before .before .before .before .find .ensures .0) (sym (c .before .before .before .is-name .ensures)
+    ∙ (c .before .before .if1 .taken)) (omega arith)
 
 add-byte-is : tie.Need-add-byte-is
 add-byte-is c = search needs
@@ -41,7 +42,9 @@ byte-is-requires : tie.Need-byte-is-requires
 byte-is-requires c κs = search needs
 
 returns-3 : tie.Need-returns-3
-returns-3 c = head-no-end _ (c .before .before .before .before .before .before .before .before .before .pre .2) _ (c .before .before .before .before .before .before .before .find .ensures .0) (sym (c .before .before .before .before .before .is-name .ensures) ∙ (c .before .before .before .before .if1 .taken)) _ (c .before .before .before .capital-word .ensures) (omega arith) (sym (c .before .byte-is .ensures) ∙ (c .if3 .left))
+returns-3 c = head-no-end _ (c .before .before .before .before .before .before .before .before .before .pre .2) _ (c .before .before .before .before .before .before .before .find .ensures .0)
+    (sym (c .before .before .before .before .before .is-name .ensures) ∙ (c .before .before .before .before .if1 .taken)) _ (c .before .before .before .capital-word .ensures)
+    (omega arith) (sym (c .before .byte-is .ensures) ∙ (c .if3 .left))
 
 cast-t12 : tie.Need-cast-t12
 cast-t12 c = search needs
@@ -50,7 +53,9 @@ add-t5 : tie.Need-add-t5
 add-t5 c = search needs
 
 returns-4 : tie.Need-returns-4
-returns-4 c = head-new _ (c .before .before .before .before .before .before .before .before .before .pre .2) _ (c .before .before .before .before .before .before .before .find .ensures .0) (sym (c .before .before .before .before .before .is-name .ensures) ∙ (c .before .before .before .before .if1 .taken)) _ (c .before .before .before .capital-word .ensures) (omega arith) (sym (c .before .byte-is .ensures) ∙ (c .if3 .taken)) _ (c .before .before .before .before .before .before .before .before .before .pre .0) (c .before .before .before .before .before .before .before .before .before .pre .1)
+returns-4 c = head-new _ (c .before .before .before .before .before .before .before .before .before .pre .2) _ (c .before .before .before .before .before .before .before .find .ensures .0)
+    (sym (c .before .before .before .before .before .is-name .ensures) ∙ (c .before .before .before .before .if1 .taken)) _ (c .before .before .before .capital-word .ensures)
+    (omega arith) (sym (c .before .byte-is .ensures) ∙ (c .if3 .taken)) _ (c .before .before .before .before .before .before .before .before .before .pre .0) (c .before .before .before .before .before .before .before .before .before .pre .1)
 
 pub read-fields-spec : {M : Type 1} → statement M
 read-fields-spec =

@@ -29,16 +29,23 @@ part-sum-in-end : tie.Need-part-sum-in-end
 part-sum-in-end c = search needs
 
 sum-in-requires : tie.Need-sum-in-requires
-sum-in-requires c κs = (c .before .before .before .before .before .pre .0, fields-body _ (now (c .before .before .before .before .before .args .name)) _ _ _ _ _ (c .before .before .before .before .before .pre .1) (c .before .before .before .before .before .pre .2))
+sum-in-requires c κs = (
+  c .before .before .before .before .before .pre .0,
+  fields-body _ (now (c .before .before .before .before .before .args .name)) _ _ _ _ _ (c .before .before .before .before .before .pre .1)
+      (c .before .before .before .before .before .pre .2),
+)
 
 returns : tie.Need-returns
-returns c = fields-18 _ _ _ _ _ _ _ (c .before .before .before .before .before .before .before .pre .1) (c .before .before .before .before .before .before .before .pre .2) _ (c .before .before .before .same .ensures) (c .if1 .left)
+returns c = fields-18 _ _ _ _ _ _ _ (c .before .before .before .before .before .before .before .pre .1) (c .before .before .before .before .before .before .before .pre .2) _
+    (c .before .before .before .same .ensures) (c .if1 .left)
 
 returns-2 : tie.Need-returns-2
-returns-2 c = fields-19 _ _ _ _ _ _ _ (c .before .before .before .before .before .before .before .before .pre .1) (c .before .before .before .before .before .before .before .before .pre .2) _ (c .before .before .before .before .same .ensures) (c .before .if1 .taken) _ (c .before .before .sum-in .ensures) (c .if2 .taken)
+returns-2 c = fields-19 _ _ _ _ _ _ _ (c .before .before .before .before .before .before .before .before .pre .1) (c .before .before .before .before .before .before .before .before .pre .2) _
+    (c .before .before .before .before .same .ensures) (c .before .if1 .taken) _ (c .before .before .sum-in .ensures) (c .if2 .taken)
 
 returns-3 : tie.Need-returns-3
-returns-3 c = fields-0 _ _ _ _ _ _ _ (c .before .before .before .before .before .before .before .before .pre .1) (c .before .before .before .before .before .before .before .before .pre .2) _ (c .before .before .before .before .same .ensures) (c .before .if1 .taken) _ (c .before .before .sum-in .ensures) (c .if2 .left)
+returns-3 c = fields-0 _ _ _ _ _ _ _ (c .before .before .before .before .before .before .before .before .pre .1) (c .before .before .before .before .before .before .before .before .pre .2) _
+    (c .before .before .before .before .same .ensures) (c .before .if1 .taken) _ (c .before .before .sum-in .ensures) (c .if2 .left)
 
 pub judge-fields-spec : {M : Type 1} → statement M
 judge-fields-spec =

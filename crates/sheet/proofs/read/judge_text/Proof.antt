@@ -33,16 +33,28 @@ places-ok-requires : tie.Need-places-ok-requires
 places-ok-requires c κs = rules _ (c .before .before .before .before .before .before .before .pre) .most
 
 returns-3 : tie.Need-returns-3
-returns-3 c = text-no-body _ _ _ _ _ _ _ _ _ (c .before .before .before .before .before .before .read-line .ensures) (c .before .before .before .before .before .if1 .taken) (c .before .before .before .before .before .before .before .before .before .pre) (sym (c .before .places-ok .ensures) ∙ (c .if3 .left))
+returns-3 c = text-no-body _ _ _ _ _ _ _ _ _ (c .before .before .before .before .before .before .read-line .ensures) (c .before .before .before .before .before .if1 .taken)
+    (c .before .before .before .before .before .before .before .before .before .pre) (sym (c .before .places-ok .ensures) ∙ (c .if3 .left))
 
 judge-fields-requires : tie.Need-judge-fields-requires
-judge-fields-requires c κs = (c .before .before .before .before .before .before .before .before .before .before .pre, text-new _ (now (c .before .before .before .before .before .before .before .before .before .before .args .name)) _ _ _ _ _ _ _ (c .before .before .before .before .before .before .before .read-line .ensures) (c .before .before .before .before .before .before .if1 .taken) (c .before .before .before .before .before .before .before .before .before .before .pre) (sym (c .before .before .before .before .before .fits2 .ensures) ∙ (c .before .before .before .before .if2 .taken)) (sym (c .before .before .places-ok .ensures) ∙ (c .before .if3 .taken)) (c .if4 .taken), text-good _ (now (c .before .before .before .before .before .before .before .before .before .before .args .name)) _ _ _ _ _ _ _ (c .before .before .before .before .before .before .before .read-line .ensures) (c .before .before .before .before .before .before .if1 .taken) (c .before .before .before .before .before .before .before .before .before .before .pre) (sym (c .before .before .before .before .before .fits2 .ensures) ∙ (c .before .before .before .before .if2 .taken)) (sym (c .before .before .places-ok .ensures) ∙ (c .before .if3 .taken)))
+judge-fields-requires c κs = (
+  c .before .before .before .before .before .before .before .before .before .before .pre,
+  text-new _ (now (c .before .before .before .before .before .before .before .before .before .before .args .name)) _ _ _ _ _ _ _
+      (c .before .before .before .before .before .before .before .read-line .ensures) (c .before .before .before .before .before .before .if1 .taken) (c .before .before .before .before .before .before .before .before .before .before .pre)
+      (sym (c .before .before .before .before .before .fits2 .ensures) ∙ (c .before .before .before .before .if2 .taken)) (sym (c .before .before .places-ok .ensures) ∙ (c .before .if3 .taken))
+      (c .if4 .taken),
+  text-good _ (now (c .before .before .before .before .before .before .before .before .before .before .args .name)) _ _ _ _ _ _ _ (c .before .before .before .before .before .before .before .read-line .ensures)
+      (c .before .before .before .before .before .before .if1 .taken) (c .before .before .before .before .before .before .before .before .before .before .pre) (sym (c .before .before .before .before .before .fits2 .ensures)
+      ∙ (c .before .before .before .before .if2 .taken)) (sym (c .before .before .places-ok .ensures) ∙ (c .before .if3 .taken)),
+)
 
 returns-4 : tie.Need-returns-4
 returns-4 c = c .judge-fields .ensures
 
 returns-5 : tie.Need-returns-5
-returns-5 c = text-old _ _ _ _ _ _ _ _ _ (c .before .before .before .before .before .before .before .read-line .ensures) (c .before .before .before .before .before .before .if1 .taken) (c .before .before .before .before .before .before .before .before .before .before .pre) (sym (c .before .before .before .before .before .fits2 .ensures) ∙ (c .before .before .before .before .if2 .taken)) (sym (c .before .before .places-ok .ensures) ∙ (c .before .if3 .taken)) (c .if4 .left)
+returns-5 c = text-old _ _ _ _ _ _ _ _ _ (c .before .before .before .before .before .before .before .read-line .ensures) (c .before .before .before .before .before .before .if1 .taken)
+    (c .before .before .before .before .before .before .before .before .before .before .pre) (sym (c .before .before .before .before .before .fits2 .ensures) ∙ (c .before .before .before .before .if2 .taken))
+    (sym (c .before .before .places-ok .ensures) ∙ (c .before .if3 .taken)) (c .if4 .left)
 
 pub judge-text-spec : {M : Type 1} → statement M
 judge-text-spec =

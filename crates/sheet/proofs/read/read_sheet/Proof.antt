@@ -27,13 +27,16 @@ add-if3 : tie.Need-add-if3
 add-if3 c = search needs
 
 returns-3 : tie.Need-returns-3
-returns-3 c = read-no-room _ _ _ _ (ok-of-judged _ (sym (c .before .before .before .before .before .judge .ensures) ∙ (c .before .before .before .before .if1 .left))) (sym (c .before .before .before .is-name .ensures) ∙ (c .before .before .if2 .taken)) (c .if3 .taken)
+returns-3 c = read-no-room _ _ _ _ (ok-of-judged _ (sym (c .before .before .before .before .before .judge .ensures) ∙ (c .before .before .before .before .if1 .left)))
+    (sym (c .before .before .before .is-name .ensures) ∙ (c .before .before .if2 .taken)) (c .if3 .taken)
 
 judge-text-requires : tie.Need-judge-text-requires
 judge-text-requires c κs = (ok-of-judged _ (sym (c .before .before .before .before .before .judge .ensures) ∙ (c .before .before .before .before .if1 .left)))
 
 returns-4 : tie.Need-returns-4
-returns-4 c = read-refused _ _ _ _ (ok-of-judged _ (sym (c .before .before .before .before .before .before .before .judge .ensures) ∙ (c .before .before .before .before .before .before .if1 .left))) (sym (c .before .before .before .before .before .is-name .ensures) ∙ (c .before .before .before .before .if2 .taken)) (c .before .before .if3 .left) _ (c .before .judge-text .ensures) (λ z. omega (arith, z, c .if4 .taken))
+returns-4 c = read-refused _ _ _ _ (ok-of-judged _ (sym (c .before .before .before .before .before .before .before .judge .ensures) ∙ (c .before .before .before .before .before .before .if1 .left)))
+    (sym (c .before .before .before .before .before .is-name .ensures) ∙ (c .before .before .before .before .if2 .taken)) (c .before .before .if3 .left) _ (c .before .judge-text .ensures)
+    (λ z. omega (arith, z, c .if4 .taken))
 
 read-line-requires : tie.Need-read-line-requires
 read-line-requires c κs = search needs
@@ -48,13 +51,25 @@ part-store-end : tie.Need-part-store-end
 part-store-end c = search needs
 
 store-requires : tie.Need-store-requires
-store-requires c κs = let r = rules-of-judged _ (sym (c .before .before .before .before .before .before .before .before .before .before .judge .ensures) ∙ (c .before .before .before .before .before .before .before .before .before .if1 .left)) in (omega arith, c .before .before .before .before .before .if3 .left, read-lines _ _ _ (now (c .before .before .before .before .before .before .before .before .before .before .before .before .before .before .args .buffer)) (ok-of-judged _ (sym (c .before .before .before .before .before .before .before .before .before .before .judge .ensures) ∙ (c .before .before .before .before .before .before .before .before .before .if1 .left))) (sym (c .before .before .before .before .before .before .before .before .is-name .ensures) ∙ (c .before .before .before .before .before .before .before .if2 .taken)) (c .before .before .before .before .before .if3 .left) _ (c .before .before .before .before .judge-text .ensures) (c .before .before .before .if4 .left) _ _ _ _ _ _ (c .before .before .read-line .ensures))
+store-requires c κs = let r = rules-of-judged _ (sym (c .before .before .before .before .before .before .before .before .before .before .judge .ensures) ∙ (c .before .before .before .before .before .before .before .before .before .if1 .left)) in (
+  omega arith,
+  c .before .before .before .before .before .if3 .left,
+  read-lines _ _ _ (now (c .before .before .before .before .before .before .before .before .before .before .before .before .before .before .args .buffer))
+      (ok-of-judged _ (sym (c .before .before .before .before .before .before .before .before .before .before .judge .ensures) ∙ (c .before .before .before .before .before .before .before .before .before .if1 .left)))
+      (sym (c .before .before .before .before .before .before .before .before .is-name .ensures) ∙ (c .before .before .before .before .before .before .before .if2 .taken))
+      (c .before .before .before .before .before .if3 .left) _ (c .before .before .before .before .judge-text .ensures) (c .before .before .before .if4 .left) _ _ _ _ _ _
+      (c .before .before .read-line .ensures),
+)
 
 same-length : tie.Need-same-length
 same-length c = search needs
 
 returns-5 : tie.Need-returns-5
-returns-5 c = read-all _ _ _ _ (ok-of-judged _ (sym (c .before .before .before .before .before .before .before .before .before .before .before .before .before .judge .ensures) ∙ (c .before .before .before .before .before .before .before .before .before .before .before .before .if1 .left))) (sym (c .before .before .before .before .before .before .before .before .before .before .before .is-name .ensures) ∙ (c .before .before .before .before .before .before .before .before .before .before .if2 .taken)) (c .before .before .before .before .before .before .before .before .if3 .left) _ (c .before .before .before .before .before .before .before .judge-text .ensures) (c .before .before .before .before .before .before .if4 .left) _ _ _ _ _ _ (c .before .before .before .before .before .read-line .ensures) _ (c .before .before .store .ensures)
+returns-5 c = read-all _ _ _ _ (ok-of-judged _ (sym (c .before .before .before .before .before .before .before .before .before .before .before .before .before .judge .ensures)
+    ∙ (c .before .before .before .before .before .before .before .before .before .before .before .before .if1 .left))) (sym (c .before .before .before .before .before .before .before .before .before .before .before .is-name .ensures)
+    ∙ (c .before .before .before .before .before .before .before .before .before .before .if2 .taken)) (c .before .before .before .before .before .before .before .before .if3 .left) _
+    (c .before .before .before .before .before .before .before .judge-text .ensures) (c .before .before .before .before .before .before .if4 .left) _ _ _ _ _ _ (c .before .before .before .before .before .read-line .ensures) _
+    (c .before .before .store .ensures)
 
 pub read-sheet-spec : {M : Type 1} → statement M
 read-sheet-spec =

@@ -27,13 +27,15 @@ array-share-prefix-words : tie.Need-array-share-prefix-words
 array-share-prefix-words c = stored-within _ (c .before .before .before .before .before .pre .0) _ (c .before .before .before .before .before .pre .1) _ (c .before .store .ensures) _
 
 slice-aggregate-checksum : tie.Need-slice-aggregate-checksum
-slice-aggregate-checksum c = sym (stored-long _ (c .before .before .before .before .before .before .pre .0) _ (c .before .before .before .before .before .before .pre .1) _ (c .before .before .store .ensures) _)
+slice-aggregate-checksum c = sym (stored-long _ (c .before .before .before .before .before .before .pre .0) _ (c .before .before .before .before .before .before .pre .1) _
+    (c .before .before .store .ensures) _)
 
 checksum-requires : tie.Need-checksum-requires
 checksum-requires c κs = search needs
 
 returns : tie.Need-returns
-returns c = sum-of-stored _ (c .before .before .before .before .before .before .before .pre .0) _ (c .before .before .before .before .before .before .before .pre .1) _ (c .before .before .before .store .ensures) _ _ (c .checksum .ensures)
+returns c = sum-of-stored _ (c .before .before .before .before .before .before .before .pre .0) _ (c .before .before .before .before .before .before .before .pre .1) _ (c .before .before .before .store .ensures) _ _
+    (c .checksum .ensures)
 
 pub sum-in-spec : {M : Type 1} → statement M
 sum-in-spec =

@@ -43,7 +43,8 @@ add-put-word-3 : tie.Need-add-put-word-3 Inv-loop μ-loop
 add-put-word-3 c = omega arith
 
 mul-put-word-2 : tie.Need-mul-put-word-2 Inv-loop μ-loop
-mul-put-word-2 c = let h : c .before .before .before .before .before .before .before .before .before .args .first + c .before .before .before .before .before .before .loop .k < length (now (c .before .before .before .before .before .before .before .before .before .args .l)) = omega arith in search needs
+mul-put-word-2 c = let h : c .before .before .before .before .before .before .before .before .before .args .first + c .before .before .before .before .before .before .loop .k < length
+    (now (c .before .before .before .before .before .before .before .before .before .args .l)) = omega arith in search needs
 
 shared-slice-read-put-word : tie.Need-shared-slice-read-put-word Inv-loop μ-loop
 shared-slice-read-put-word c = omega arith

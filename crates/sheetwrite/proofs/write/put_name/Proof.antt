@@ -22,7 +22,8 @@ same-length : tie.Need-same-length
 same-length c = search needs
 
 returns : tie.Need-returns
-returns c = name-put (now (c .before .before .before .before .before .before .args .name)) (now (c .before .before .before .before .before .before .args .out)) _ _ (c .before .before .before .before .before .before .pre) (c .before .before .copy .ensures .1) refl
+returns c = name-put (now (c .before .before .before .before .before .before .args .name)) (now (c .before .before .before .before .before .before .args .out)) _ _ (c .before .before .before .before .before .before .pre)
+    (c .before .before .copy .ensures .1) refl
 
 pub put-name-spec : {M : Type 1} → statement M
 put-name-spec =

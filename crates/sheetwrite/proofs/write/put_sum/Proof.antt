@@ -24,7 +24,8 @@ same-length : tie.Need-same-length
 same-length c = search needs
 
 returns : tie.Need-returns
-returns c = sum-put _ _ (now (c .before .before .before .before .before .before .before .before .before .before .before .before .before .args .out)) _ _ _ (c .before .before .before .before .before .before .before .before .before .before .put .ensures) (c .before .before .before .before .before .before .put-word .ensures) (c .before .before .put2 .ensures)
+returns c = sum-put _ _ (now (c .before .before .before .before .before .before .before .before .before .before .before .before .before .args .out)) _ _ _ (c .before .before .before .before .before .before .before .before .before .before .put .ensures)
+    (c .before .before .before .before .before .before .put-word .ensures) (c .before .before .put2 .ensures)
 
 pub put-sum-spec : {M : Type 1} → statement M
 put-sum-spec =

@@ -28,7 +28,8 @@ checksum-requires : tie.Need-checksum-requires
 checksum-requires c κs = search needs
 
 returns-3 : tie.Need-returns-3
-returns-3 c = new-no-reading _ _ _ _ (ok-of-judged _ (sym (c .before .before .before .before .before .before .judge .ensures) ∙ (c .before .before .before .before .before .if1 .left))) (sym (c .before .before .before .before .is-name .ensures) ∙ (c .before .before .before .if2 .taken)) _ (c .before .before .checksum .ensures) (c .if3 .taken)
+returns-3 c = new-no-reading _ _ _ _ (ok-of-judged _ (sym (c .before .before .before .before .before .before .judge .ensures) ∙ (c .before .before .before .before .before .if1 .left)))
+    (sym (c .before .before .before .before .is-name .ensures) ∙ (c .before .before .before .if2 .taken)) _ (c .before .before .checksum .ensures) (c .if3 .taken)
 
 add-whole : tie.Need-add-whole
 add-whole c = search needs
@@ -41,7 +42,9 @@ add-whole-2 c = search needs
 
 returns-4 : tie.Need-returns-4
 unfolding newLength
-returns-4 c = new-short _ _ _ _ (ok-of-judged _ (sym (c .before .before .before .before .before .before .before .before .judge .ensures) ∙ (c .before .before .before .before .before .before .before .if1 .left))) (sym (c .before .before .before .before .before .before .is-name .ensures) ∙ (c .before .before .before .before .before .if2 .taken)) _ (c .before .before .before .before .checksum .ensures) (c .before .before .if3 .left) (omega (arith, c .if4 .taken, c .before .body-length .ensures .0))
+returns-4 c = new-short _ _ _ _ (ok-of-judged _ (sym (c .before .before .before .before .before .before .before .before .judge .ensures) ∙ (c .before .before .before .before .before .before .before .if1 .left)))
+    (sym (c .before .before .before .before .before .before .is-name .ensures) ∙ (c .before .before .before .before .before .if2 .taken)) _ (c .before .before .before .before .checksum .ensures)
+    (c .before .before .if3 .left) (omega (arith, c .if4 .taken, c .before .body-length .ensures .0))
 
 put-first-requires : tie.Need-put-first-requires
 put-first-requires c κs = search needs
@@ -50,14 +53,30 @@ add-put-body : tie.Need-add-put-body
 add-put-body c = search needs
 
 put-body-requires : tie.Need-put-body-requires
-put-body-requires c κs = let r = rules-of-judged _ (sym (c .before .before .before .before .before .before .before .before .before .before .before .before .before .judge .ensures) ∙ (c .before .before .before .before .before .before .before .before .before .before .before .before .if1 .left)) in (omega arith, omega (arith, c .before .before .before .before .before .if4 .left, c .before .before .before .before .before .before .body-length .ensures .0), reading-long _ _ (new-reading _ (now (c .before .before .before .before .before .before .before .before .before .before .before .before .before .before .before .before .before .args .name)) _ (now (c .before .before .before .before .before .before .before .before .before .before .before .before .before .before .before .before .before .args .out)) (ok-of-judged _ (sym (c .before .before .before .before .before .before .before .before .before .before .before .before .before .judge .ensures) ∙ (c .before .before .before .before .before .before .before .before .before .before .before .before .if1 .left))) (sym (c .before .before .before .before .before .before .before .before .before .before .before .is-name .ensures) ∙ (c .before .before .before .before .before .before .before .before .before .before .if2 .taken)) _ (c .before .before .before .before .before .before .before .before .before .checksum .ensures) (c .before .before .before .before .before .before .before .if3 .left)))
+put-body-requires c κs = let r = rules-of-judged _ (sym (c .before .before .before .before .before .before .before .before .before .before .before .before .before .judge .ensures)
+    ∙ (c .before .before .before .before .before .before .before .before .before .before .before .before .if1 .left)) in (
+      omega arith,
+      omega (arith, c .before .before .before .before .before .if4 .left, c .before .before .before .before .before .before .body-length .ensures .0),
+      reading-long _ _
+          (new-reading _ (now (c .before .before .before .before .before .before .before .before .before .before .before .before .before .before .before .before .before .args .name)) _
+          (now (c .before .before .before .before .before .before .before .before .before .before .before .before .before .before .before .before .before .args .out))
+          (ok-of-judged _ (sym (c .before .before .before .before .before .before .before .before .before .before .before .before .before .judge .ensures) ∙ (c .before .before .before .before .before .before .before .before .before .before .before .before .if1 .left)))
+          (sym (c .before .before .before .before .before .before .before .before .before .before .before .is-name .ensures) ∙ (c .before .before .before .before .before .before .before .before .before .before .if2 .taken)) _
+          (c .before .before .before .before .before .before .before .before .before .checksum .ensures) (c .before .before .before .before .before .before .before .if3 .left)),
+    )
 
 same-length : tie.Need-same-length
 same-length c = search needs
 
 returns-5 : tie.Need-returns-5
 unfolding newLength
-returns-5 c = new-all _ _ _ _ (ok-of-judged _ (sym (c .before .before .before .before .before .before .before .before .before .before .before .before .before .before .before .before .judge .ensures) ∙ (c .before .before .before .before .before .before .before .before .before .before .before .before .before .before .before .if1 .left))) (sym (c .before .before .before .before .before .before .before .before .before .before .before .before .before .before .is-name .ensures) ∙ (c .before .before .before .before .before .before .before .before .before .before .before .before .before .if2 .taken)) _ (c .before .before .before .before .before .before .before .before .before .before .before .before .checksum .ensures) (c .before .before .before .before .before .before .before .before .before .before .if3 .left) (omega (arith, c .before .before .before .before .before .before .before .before .if4 .left, c .before .before .before .before .before .before .before .before .before .body-length .ensures .0)) _ (ap (λ n. 11 + length (now (c .before .before .before .before .before .before .before .before .before .before .before .before .before .before .before .before .before .before .before .before .args .name)) + n) (c .before .before .before .before .before .before .before .before .before .body-length .ensures .0)) _ _ (c .before .before .before .before .before .before .put-first .ensures) (c .before .before .put-body .ensures)
+returns-5 c = new-all _ _ _ _ (ok-of-judged _ (sym (c .before .before .before .before .before .before .before .before .before .before .before .before .before .before .before .before .judge .ensures)
+    ∙ (c .before .before .before .before .before .before .before .before .before .before .before .before .before .before .before .if1 .left))) (sym (c .before .before .before .before .before .before .before .before .before .before .before .before .before .before .is-name .ensures)
+    ∙ (c .before .before .before .before .before .before .before .before .before .before .before .before .before .if2 .taken)) _ (c .before .before .before .before .before .before .before .before .before .before .before .before .checksum .ensures)
+    (c .before .before .before .before .before .before .before .before .before .before .if3 .left) (omega (arith, c .before .before .before .before .before .before .before .before .if4 .left, c .before .before .before .before .before .before .before .before .before .body-length .ensures .0)) _
+    (ap (λ n. 11 + length (now (c .before .before .before .before .before .before .before .before .before .before .before .before .before .before .before .before .before .before .before .before .args .name)) + n)
+    (c .before .before .before .before .before .before .before .before .before .body-length .ensures .0)) _ _ (c .before .before .before .before .before .before .put-first .ensures)
+    (c .before .before .put-body .ensures)
 
 pub write-new-sheet-spec : {M : Type 1} → statement M
 write-new-sheet-spec =

@@ -30,7 +30,8 @@ add-length c = search needs
 
 returns-3 : tie.Need-returns-3
 unfolding sheetLength
-returns-3 c = refused-short _ _ _ (ok-of-judged _ (sym (c .before .before .before .before .before .judge .ensures) ∙ (c .before .before .before .before .if1 .left))) (sym (c .before .before .before .is-reading .ensures) ∙ (c .before .before .if2 .taken)) (omega (arith, c .if3 .taken, c .before .body-length .ensures .0))
+returns-3 c = refused-short _ _ _ (ok-of-judged _ (sym (c .before .before .before .before .before .judge .ensures) ∙ (c .before .before .before .before .if1 .left))) (sym
+    (c .before .before .before .is-reading .ensures) ∙ (c .before .before .if2 .taken)) (omega (arith, c .if3 .taken, c .before .body-length .ensures .0))
 
 put-word-requires : tie.Need-put-word-requires
 put-word-requires c κs = search needs
@@ -39,14 +40,25 @@ put-requires : tie.Need-put-requires
 put-requires c κs = search needs
 
 put-body-requires : tie.Need-put-body-requires
-put-body-requires c κs = let r = rules-of-judged _ (sym (c .before .before .before .before .before .before .before .before .before .before .before .before .before .before .judge .ensures) ∙ (c .before .before .before .before .before .before .before .before .before .before .before .before .before .if1 .left)) in (omega arith, omega (arith, c .before .before .before .before .before .before .before .before .before .if3 .left, c .before .before .before .before .before .before .before .before .before .before .body-length .ensures .0), reading-long _ _ (sym (c .before .before .before .before .before .before .before .before .before .before .before .before .is-reading .ensures) ∙ (c .before .before .before .before .before .before .before .before .before .before .before .if2 .taken)))
+put-body-requires c κs = let r = rules-of-judged _ (sym (c .before .before .before .before .before .before .before .before .before .before .before .before .before .before .judge .ensures)
+    ∙ (c .before .before .before .before .before .before .before .before .before .before .before .before .before .if1 .left)) in (
+      omega arith,
+      omega (arith, c .before .before .before .before .before .before .before .before .before .if3 .left, c .before .before .before .before .before .before .before .before .before .before .body-length .ensures .0),
+      reading-long _ _
+          (sym (c .before .before .before .before .before .before .before .before .before .before .before .before .is-reading .ensures) ∙ (c .before .before .before .before .before .before .before .before .before .before .before .if2 .taken)),
+    )
 
 same-length : tie.Need-same-length
 same-length c = search needs
 
 returns-4 : tie.Need-returns-4
 unfolding sheetLength
-returns-4 c = all-written _ _ _ (ok-of-judged _ (sym (c .before .before .before .before .before .before .before .before .before .before .before .before .before .before .before .before .before .judge .ensures) ∙ (c .before .before .before .before .before .before .before .before .before .before .before .before .before .before .before .before .if1 .left))) (sym (c .before .before .before .before .before .before .before .before .before .before .before .before .before .before .before .is-reading .ensures) ∙ (c .before .before .before .before .before .before .before .before .before .before .before .before .before .before .if2 .taken)) (omega (arith, c .before .before .before .before .before .before .before .before .before .before .before .before .if3 .left, c .before .before .before .before .before .before .before .before .before .before .before .before .before .body-length .ensures .0)) _ (ap (λ n. 5 + n) (c .before .before .before .before .before .before .before .before .before .before .before .before .before .body-length .ensures .0)) _ (sheet-put _ _ _ _ _ _ (c .before .before .before .before .before .before .before .before .before .before .put-word .ensures) (c .before .before .before .before .before .before .put .ensures) (c .before .before .put-body .ensures))
+returns-4 c = all-written _ _ _ (ok-of-judged _ (sym (c .before .before .before .before .before .before .before .before .before .before .before .before .before .before .before .before .before .judge .ensures)
+    ∙ (c .before .before .before .before .before .before .before .before .before .before .before .before .before .before .before .before .if1 .left))) (sym (c .before .before .before .before .before .before .before .before .before .before .before .before .before .before .before .is-reading .ensures)
+    ∙ (c .before .before .before .before .before .before .before .before .before .before .before .before .before .before .if2 .taken)) (omega (arith, c .before .before .before .before .before .before .before .before .before .before .before .before .if3 .left, c .before .before .before .before .before .before .before .before .before .before .before .before .before .body-length .ensures .0)) _
+    (ap (λ n. 5 + n) (c .before .before .before .before .before .before .before .before .before .before .before .before .before .body-length .ensures .0)) _ (sheet-put _ _ _ _ _ _
+    (c .before .before .before .before .before .before .before .before .before .before .put-word .ensures) (c .before .before .before .before .before .before .put .ensures)
+    (c .before .before .put-body .ensures))
 
 pub write-sheet-spec : {M : Type 1} → statement M
 write-sheet-spec =
