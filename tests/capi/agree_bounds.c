@@ -42,7 +42,7 @@ static void streams(const tickmallet_device *d)
           "it does not go into less");
 }
 
-static const uint8_t name[TICKMALLET_MOST_NAME + 1] = "DEVICE-OF-SIXTEEN";
+static const uint8_t name[] = "ABCDEFGHIJKLMNOP";
 
 static void sheets(const tickmallet_device *d)
 {
@@ -51,7 +51,8 @@ static void sheets(const tickmallet_device *d)
     holds(tickmallet_write_sheet(d, reading, TICKMALLET_READING_WORDS(p), old_sheet, TICKMALLET_SHEET_BYTES(p), &length) == 0 &&
               length == TICKMALLET_SHEET_BYTES(p),
           "a sheet of the old form has TICKMALLET_SHEET_BYTES");
-    holds(tickmallet_write_sheet(d, reading, TICKMALLET_READING_WORDS(p), old_sheet, TICKMALLET_SHEET_BYTES(p) - 1, &length) == 26, "it does not go into less");
+    holds(tickmallet_write_sheet(d, reading, TICKMALLET_READING_WORDS(p), old_sheet, TICKMALLET_SHEET_BYTES(p) - 1, &length) == 26,
+          "it does not go into less");
     holds(tickmallet_read_sheet(d, name, 1, old_sheet, TICKMALLET_SHEET_BYTES(p), reading, TICKMALLET_READING_WORDS(p)) == 0,
           "it is read into TICKMALLET_READING_WORDS");
 }
@@ -61,13 +62,14 @@ static void new_sheets(const tickmallet_device *d, size_t name_len)
 {
     char line[64];
     const uint8_t *table = (const uint8_t *)line;
-    size_t p = d->words, length, bytes = TICKMALLET_NEW_SHEET_BYTES(p, name_len), old_bytes = TICKMALLET_SHEET_BYTES(p);
+    size_t p = d->words, count = TICKMALLET_READING_WORDS(p), length;
+    size_t bytes = TICKMALLET_NEW_SHEET_BYTES(p, name_len), old_bytes = TICKMALLET_SHEET_BYTES(p);
     size_t n = (size_t)snprintf(line, sizeof line, "%.*s\t3023\t%u\t%u\t3EFF\t3FF3\n", (int)name_len, (const char *)name, d->words, d->row);
     all_different(p);
-    holds(tickmallet_write_new_sheet(d, name, name_len, reading, TICKMALLET_READING_WORDS(p), new_sheet, bytes, &length) == 0 && length == bytes,
-          "a sheet of the new form has TICKMALLET_NEW_SHEET_BYTES");
-    holds(tickmallet_write_new_sheet(d, name, name_len, reading, TICKMALLET_READING_WORDS(p), new_sheet, bytes - 1, &length) == 26, "it does not go into less");
-    holds(tickmallet_read_sheet(d, name, name_len, new_sheet, bytes, reading, TICKMALLET_READING_WORDS(p)) == 0, "it is read into TICKMALLET_READING_WORDS");
+    holds(tickmallet_write_new_sheet(d, name, name_len, reading, count, new_sheet, bytes - 1, &length) == 26,
+          "a sheet of the new form does not go into less than TICKMALLET_NEW_SHEET_BYTES");
+    holds(tickmallet_write_new_sheet(d, name, name_len, reading, count, new_sheet, bytes, &length) == 0 && length == bytes, "it has so many");
+    holds(tickmallet_read_sheet(d, name, name_len, new_sheet, bytes, reading, count) == 0, "it is read into TICKMALLET_READING_WORDS");
     holds(tickmallet_to_old(table, n, new_sheet, bytes, old_sheet, old_bytes - 1, &length) == 26, "moved to the old form it does not go into less");
     holds(tickmallet_to_old(table, n, new_sheet, bytes, old_sheet, old_bytes, &length) == 0 && length == old_bytes, "it has TICKMALLET_SHEET_BYTES");
     holds(tickmallet_to_new(table, n, old_sheet, old_bytes, new_sheet, bytes - 1, &length) == 26, "moved to the new form it does not go into less");

@@ -133,15 +133,57 @@ static void update_all(void)
           "it reads every word");
 }
 
+/* The longest name. The sum by hand: the program words are each word twice, so that 3FFFh times 4000h is their sum, C000h, and with 3EFFh and
+   3FF3h that is 3EF2h. */
+#define NAME "ABCDEFGHIJKLMNOP"
+#define FIRST "2A01\t" NAME "\t3EF2\n"
+
+enum { OLD = 184375, NEW = 184397, FIRST_LEN = sizeof FIRST - 1 };
+
+static const char table[] = NAME "\t2A01\t32768\t32\t3EFF\t3FF3\n";
+static uint8_t new_text[NEW], moved[NEW];
+
+static void read_all(const uint8_t *from, size_t length, const char *what)
+{
+    memset(found, 0, sizeof found);
+    holds(tickmallet_read_sheet(&big, (const uint8_t *)NAME, 16, from, length, found, COUNT) == 0 && !memcmp(found, reading, sizeof found), what);
+}
+
 static void sheet_of_all(void)
 {
     size_t length;
     all_given();
-    holds(tickmallet_write_sheet(&big, reading, COUNT, text, sizeof text, &length) == 0 && length == 184375,
+    holds(tickmallet_write_sheet(&big, reading, COUNT, text, sizeof text, &length) == 0 && length == OLD,
           "a sheet of the largest device has 184375 bytes");
-    holds(!memcmp(text + 184375 - 50 - 45 - 1, "\n7FF8\t", 6) && !memcmp(text + 184375 - 50 - 1, "\n8000\t", 6), "its last lines are 7FF8 and 8000");
-    memset(found, 0, sizeof found);
-    holds(tickmallet_read_sheet(&big, text, length, found, COUNT) == 0 && !memcmp(found, reading, sizeof found), "it is read as the same words");
+    holds(!memcmp(text + OLD - 50 - 45 - 1, "\n7FF8\t", 6) && !memcmp(text + OLD - 50 - 1, "\n8000\t", 6), "its last lines are 7FF8 and 8000");
+    read_all(text, OLD, "it is read as the same words");
+    holds(tickmallet_write_new_sheet(&big, (const uint8_t *)NAME, 16, reading, COUNT, new_text, sizeof new_text, &length) == 0 && length == NEW,
+          "of the new form it has 184397 bytes");
+    holds(!memcmp(new_text, FIRST, FIRST_LEN) && !memcmp(new_text + FIRST_LEN, text + 5, OLD - 5), "it differs in the first line alone");
+    read_all(new_text, NEW, "it is read as the same words too");
+}
+
+/* After sheet_of_all: each of its two texts is moved to both forms, into just the room that it takes and into one byte less. */
+static void move_all(void)
+{
+    const uint8_t *const texts[2] = {text, new_text};
+    const size_t lengths[2] = {OLD, NEW};
+    uint8_t (*move)(const uint8_t *, size_t, const uint8_t *, size_t, uint8_t *, size_t, size_t *);
+    size_t length, n = sizeof table - 1;
+    for (int from = 0; from < 2; from++)
+        for (int to = 0; to < 2; to++) {
+            move = to ? tickmallet_to_new : tickmallet_to_old;
+            memset(moved, 0, sizeof moved);
+            holds(move((const uint8_t *)table, n, texts[from], lengths[from], moved, lengths[to] - 1, &length) == 26 && length == 0 && moved[0] == 0,
+                  "a sheet of the largest device does not go into less");
+            holds(move((const uint8_t *)table, n, texts[from], lengths[from], moved, lengths[to], &length) == 0 && length == lengths[to] &&
+                      !memcmp(moved, texts[to], length),
+                  "a sheet of the largest device is moved");
+        }
+    new_text[FIRST_LEN - 2] = '3';
+    holds(tickmallet_to_old((const uint8_t *)table, n, new_text, NEW, moved, sizeof moved, &length) == 19, "its sum is judged");
+    new_text[FIRST_LEN - 2] = '2', new_text[NEW - 2] = 'E'; /* the sum of before, and 3FFE at 8008h */
+    holds(tickmallet_to_old((const uint8_t *)table, n, new_text, NEW, moved, sizeof moved, &length) == 19, "by all its words");
 }
 
 /* A blank board's sum by hand: 8000h for the program words, as 2^15 times 3FFFh, and 3EFFh and 3FF3h. */
@@ -175,5 +217,6 @@ void agree_largest(void)
     read_lines(MOST_TEXT + 1, 1);
     update_all();
     sheet_of_all();
+    move_all();
     judge_all();
 }

@@ -130,6 +130,7 @@ struct first {
 
 static int takes_first(struct cursor *c, struct first *f)
 {
+    *f = (struct first){0, 0, {0, 0}, 0};
     if (!takes_word(c, &f->id) || f->id >= LIMIT)
         return 0;
     f->is_new = !takes(c, LF);

@@ -98,23 +98,20 @@ record Opens (table sheet : List ℕ) : Type 0 where
   pub sound : deviceOk (recordOf table sheet) ≡ true
   pub few : recordOf table sheet .words ≤ mostProgram
   pub named : nameOk (nameOf table sheet) ≡ true
-  pub within : foundIn table (firstLine sheet .id) .«name_at» + foundIn table (firstLine sheet .id) .«name_len» ≤ length table
 
 opens : (table sheet : List ℕ) → openNumber table sheet ≡ 0 → Opens table sheet
 unfolding openNumber recordOf nameOf
 opens table sheet z =
     by (tableOk table) (eqb (firstLine sheet .number) 0) (hasId (firstLine sheet .id) (tableLines table)) (leb (recordOf table sheet .words) mostProgram) z
-    (eqb-true (firstLine sheet .number) 0) (λ t h. (found-sound table (firstLine sheet .id) t h, found-name table (firstLine sheet .id) t h, found-within table (firstLine sheet .id) t h))
+    (eqb-true (firstLine sheet .number) 0) (λ t h. (found-sound table (firstLine sheet .id) t h, found-name table (firstLine sheet .id) t h))
     (leb-true (recordOf table sheet .words) mostProgram)
   where
     Sound : Type 0
-    Sound =
-        (deviceOk (foundIn table (firstLine sheet .id) .device) ≡ true) × (nameOk (nameAt table (foundIn table (firstLine sheet .id))) ≡ true)
-        × (foundIn table (firstLine sheet .id) .«name_at» + foundIn table (firstLine sheet .id) .«name_len» ≤ length table)
+    Sound = (deviceOk (foundIn table (firstLine sheet .id) .device) ≡ true) × (nameOk (nameAt table (foundIn table (firstLine sheet .id))) ≡ true)
 
     by : (t f h w : Bool) → pick {A = ℕ} t (pick {A = ℕ} f (pick {A = ℕ} h (pick {A = ℕ} w 0 17) 16) 14) 15 ≡ 0
         → (f ≡ true → firstLine sheet .number ≡ 0) → (t ≡ true → h ≡ true → Sound) → (w ≡ true → recordOf table sheet .words ≤ mostProgram) → Opens table sheet
-    by true true true true q j k m = record { first = j refl; sound = k refl refl .0; few = m refl; named = k refl refl .1; within = k refl refl .2 }
+    by true true true true q j k m = record { first = j refl; sound = k refl refl .0; few = m refl; named = k refl refl .1 }
     by true true true false q j k m = absurd (unfold pick in omega (arith, q))
     by true true false w q j k m = absurd (unfold pick in omega (arith, q))
     by true false h w q j k m = absurd (unfold pick in omega (arith, q))
@@ -127,12 +124,9 @@ opened-id table sheet z = id-stands sheet (opens table sheet z .first)
 pub opened-sound : (table sheet : List ℕ) → openNumber table sheet ≡ 0 → deviceOk (recordOf table sheet) ≡ true
 opened-sound table sheet z = opens table sheet z .sound
 
--- its name is a table name, and stands within the table
+-- its name is a table name
 pub opened-named : (table sheet : List ℕ) → openNumber table sheet ≡ 0 → nameOk (nameOf table sheet) ≡ true
 opened-named table sheet z = opens table sheet z .named
-
-pub opened-within : (table sheet : List ℕ) → openNumber table sheet ≡ 0 → foundIn table (firstLine sheet .id) .«name_at» + foundIn table (firstLine sheet .id) .«name_len» ≤ length table
-opened-within table sheet z = opens table sheet z .within
 
 -- the name, as the code cuts it out of the table
 module _ (table sheet : List ℕ) (at len : ℕ) (e : at ≡ foundIn table (firstLine sheet .id) .«name_at») (f : len ≡ foundIn table (firstLine sheet .id) .«name_len») where
@@ -140,8 +134,8 @@ module _ (table sheet : List ℕ) (at len : ℕ) (e : at ≡ foundIn table (firs
   unfolding nameOf nameAt
   name-cut = let n : at + len - at ≡ len = omega arith in ap (λ k. take k (drop at table)) n ∙ (λ i. take (f i) (drop (e i) table))
 
-  pub name-inside : openNumber table sheet ≡ 0 → at + len ≤ length table
-  name-inside z = let w = opened-within table sheet z in rw (e, f) w
+  pub name-inside : at + len ≤ length table
+  name-inside = rw (e, f) (found-within table (firstLine sheet .id))
 
 -- so it is one that the programs serve
 pub opened-served : (table sheet : List ℕ) → openNumber table sheet ≡ 0 → deviceUpTo mostProgram (recordOf table sheet) ≡ true

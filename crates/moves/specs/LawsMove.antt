@@ -18,7 +18,7 @@ use Rattle.device.specs.Record.{deviceOk, fits}
 use Rattle.device.specs.Memory.{readingTail, readingOk}
 use Rattle.table.specs.Table.{nameOk, tableOk, tableLines, hasId, foundIn, nameAt}
 use Rattle.table.specs.LawsTable.{found-sound}
-use Rattle.table.specs.LawsName.{found-name, found-within}
+use Rattle.table.specs.LawsName.{found-name}
 use Rattle.judge.specs.Checksum.{checksumOf}
 use Rattle.sheet.specs.FirstLine.{idIn, isNew, nameIn, sumIn, lineOk, firstLine}
 use Rattle.sheet.specs.Sheet.{sheetWith, newWith, wordsIn, sheetOk, sheetNumber}
@@ -84,7 +84,6 @@ pub record Finds (table text : List ℕ) : Type 0 where
   pub has : hasId (firstLine text .id) (tableLines table) ≡ true
   pub sound : deviceOk (recordOf table text) ≡ true
   pub named : nameOk (nameOf table text) ≡ true
-  pub within : foundIn table (firstLine text .id) .«name_at» + foundIn table (firstLine text .id) .«name_len» ≤ length table
 
 pub finds : (table text : List ℕ) → foundNumber table text ≡ 0 → Finds table text
 unfolding foundNumber recordOf nameOf
@@ -98,7 +97,6 @@ finds table text z = by (tableOk table) (eqb (firstLine text .number) 0) (hasId 
       has = h;
       sound = found-sound table (firstLine text .id) t h;
       named = found-name table (firstLine text .id) t h;
-      within = found-within table (firstLine text .id) t h;
     }
     by true true false t f h q = absurd (unfold pick in omega (arith, q))
     by true false h t f k q = absurd (unfold pick in omega (arith, q))

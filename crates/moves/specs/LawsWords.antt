@@ -70,9 +70,6 @@ module _ (table text : List ℕ) where
       pub found-there : Finds table text
       found-there = finds table text there
 
-      pub found-inside : (at len : ℕ) → at ≡ foundIn table (firstLine text .id) .«name_at» → len ≡ foundIn table (firstLine text .id) .«name_len» → at + len ≤ length table
-      found-inside at len p q = rw (p, q) (found-there .within)
-
       module _ (d : Device) (is : d ≡ recordOf table text) (before : List ℕ) (long : length before ≡ mostReading) where
         keeps : deviceOk d ≡ true
         keeps = ap deviceOk is ∙ found-there .sound
@@ -163,9 +160,6 @@ module _ (table text : List ℕ) (number : ℕ) (e : number ≡ moveNumber table
 
   reading-ok : readingOk (d .words) (take (d .words + readingTail) words) ≡ true
   reading-ok = (λ i. readingOk (is i .words) (words-are i)) ∙ move-words table text ok
-
-  pub name-within : (at len : ℕ) → at ≡ foundIn table (firstLine text .id) .«name_at» → len ≡ foundIn table (firstLine text .id) .«name_len» → at + len ≤ length table
-  name-within at len p q = rw (p, q) (fine .within)
 
   -- the record with line 1's ID
   module _ (given : Device) (g : given ≡ withId d id) (out : List ℕ) where

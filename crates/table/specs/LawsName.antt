@@ -11,14 +11,14 @@ use lib.Seq.{take-length, take-take, take-append-seam, drop-append-add, length-t
 use borrow.Author.Tests.{eqb-true}
 use Rattle.bytes.specs.Bytes.{indexOf}
 use Rattle.words.specs.Choice.{pick}
-use Rattle.words.specs.LawsChoice.{pick-true, first-holds, second-holds, true-not-false}
-use Rattle.words.specs.LawsTests.{by-lt}
+use Rattle.words.specs.LawsChoice.{pick-true, pick-false, first-holds, second-holds, true-not-false}
+use Rattle.words.specs.LawsTests.{by-lt, by-test}
 use Rattle.numerals.specs.Text.{tab, lf, split, inFront}
 use Rattle.numerals.specs.Decimal.{isDecimal}
 use Rattle.numerals.specs.LawsText.{split-at, split-whole, some-piece}
 use Rattle.device.specs.Record.{mostWords, deviceUpTo, fits}
-use Rattle.table.specs.Table.{butLast, field, nameOk, hexOk, deviceOf, countOk, lineUpTo, tableLines, tableOk, hasId, lineWith, startOf, given, foundUpTo, foundIn, nameAt}
-use Rattle.table.specs.LawsTable.{line-with-ok, lines-ok, start-here, line-here, has-later, start-later, line-later}
+use Rattle.table.specs.Table.{butLast, field, nameOk, hexOk, deviceOf, countOk, lineUpTo, tableLines, tableOk, hasId, lineWith, startOf, refused, given, foundUpTo, foundIn, nameAt}
+use Rattle.table.specs.LawsTable.{line-with-ok, lines-ok, found-bad, start-here, line-here, has-later, start-later, line-later}
 
 -- ---- a text and its pieces
 
@@ -114,6 +114,10 @@ line-name line e =
 
 -- ---- a found name
 
+found-absent : (text : List ℕ) (id : ℕ) → tableOk text ≡ true → hasId id (tableLines text) ≡ false → foundIn text id ≡ refused 16
+unfolding foundIn foundUpTo tableOk
+found-absent text id t f = pick-true (tableOk text) _ _ t ∙ pick-false (hasId id (tableLines text)) _ _ f
+
 module _ (text : List ℕ) (id : ℕ) (t : tableOk text ≡ true) (has : hasId id (tableLines text) ≡ true) where
   found-is : foundIn text id ≡ given (startOf id (tableLines text)) (lineWith id (tableLines text))
   unfolding foundIn foundUpTo tableOk
@@ -140,10 +144,20 @@ module _ (text : List ℕ) (id : ℕ) (t : tableOk text ≡ true) (has : hasId i
   pub found-name : nameOk (nameAt text (foundIn text id)) ≡ true
   found-name = ap nameOk name-is ∙ line-name line (unfold line in line-with-ok id (tableLines text) (lines-ok text t) has)
 
-  -- and it stands within the text
-  pub found-within : foundIn text id .«name_at» + foundIn text id .«name_len» ≤ length text
+  within-here : foundIn text id .«name_at» + foundIn text id .«name_len» ≤ length text
   unfolding given
-  found-within =
+  within-here =
       let w : startOf id (tableLines text) + length (lineWith id (tableLines text)) ≤ length text = stands .within in
       let f : length (field 0 (lineWith id (tableLines text))) ≤ length (lineWith id (tableLines text)) = field-front (lineWith id (tableLines text)) .1 in
       rw found-is (omega arith)
+
+none-within : (text : List ℕ) (n : ℕ) → refused n .«name_at» + refused n .«name_len» ≤ length text
+unfolding refused
+none-within text n = omega arith
+
+-- what is found stands within the text, beside a refusal too
+pub found-within : (text : List ℕ) (id : ℕ) → foundIn text id .«name_at» + foundIn text id .«name_len» ≤ length text
+found-within text id =
+    by-test (tableOk text)
+    (λ t. by-test (hasId id (tableLines text)) (within-here text id t) (λ f. rw (found-absent text id t f) (none-within text 16)))
+    (λ f. rw (found-bad text id f) (none-within text 15))

@@ -23,8 +23,7 @@ returns c = let number = kept-refused _ _ _ (c .before .before .open-record .ens
 )
 
 add-end : tie.Need-add-end
-add-end c = let h = name-inside _ (now (c .before .before .before .before .before .before .before .args .sheet)) _ _ (c .before .before .before .before .open-record .ensures .2)
-    (c .before .before .before .before .open-record .ensures .3) (sym (c .before .before .before .before .open-record .ensures .0) ∙ (c .before .before .if1 .left)) in search needs
+add-end c = let h = name-inside _ (now (c .before .before .before .before .before .before .before .args .sheet)) _ _ (c .before .before .before .before .open-record .ensures .2) (c .before .before .before .before .open-record .ensures .3) in search needs
 
 sub-read-front : tie.Need-sub-read-front
 sub-read-front c = search needs
@@ -33,11 +32,7 @@ part-read-front-start : tie.Need-part-read-front-start
 part-read-front-start c = search needs
 
 part-read-front-end : tie.Need-part-read-front-end
-part-read-front-end c = omega (
-  arith,
-  name-inside _ (now (c .before .before .before .before .before .before .before .args .sheet)) _ _ (c .before .before .before .before .open-record .ensures .2)
-      (c .before .before .before .before .open-record .ensures .3) (sym (c .before .before .before .before .open-record .ensures .0) ∙ (c .before .before .if1 .left)),
-)
+part-read-front-end c = omega (arith, name-inside _ (now (c .before .before .before .before .before .before .before .args .sheet)) _ _ (c .before .before .before .before .open-record .ensures .2) (c .before .before .before .before .open-record .ensures .3))
 
 read-front-requires : tie.Need-read-front-requires
 read-front-requires c κs = omega (

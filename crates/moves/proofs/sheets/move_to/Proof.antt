@@ -2,9 +2,9 @@
 use denote.Ref.{now}
 use mathlib.Core.Path.{sym}
 use native.Mathlib.Omega.{arith}
-use Rattle.board.specs.LawsOpen.{name-cut}
+use Rattle.board.specs.LawsOpen.{name-cut, name-inside}
 use Rattle.moves.specs.LawsMove.{moved-refused}
-use Rattle.moves.specs.LawsWords.{form-new, form-old, moved-as, name-within, words-within, words-long, new-moved, old-moved}
+use Rattle.moves.specs.LawsWords.{form-new, form-old, moved-as, words-within, words-long, new-moved, old-moved}
 use borrow.Author.Needs.{needs}
 use Rattle.moves.proofs.sheets.move_to.Statement.{statement}
 use Rattle.moves.proofs.sheets.move_to.Tie as tie
@@ -19,8 +19,7 @@ returns : tie.Need-returns
 returns c = moved-refused _ _ _ _ (c .before .before .before .open-sheet .ensures .0) (λ z. omega (arith, z, c .if1 .taken))
 
 add-end : tie.Need-add-end
-add-end c = let h = name-within _ _ _ (c .before .before .before .before .open-sheet .ensures .0) (c .before .if1 .left) _ (c .before .before .before .before .open-sheet .ensures .1) _
-    (c .before .before .before .before .open-sheet .ensures .2) _ _ (c .before .before .before .before .open-sheet .ensures .3) (c .before .before .before .before .open-sheet .ensures .4) in search needs
+add-end c = let h = name-inside _ (now (c .before .before .before .before .before .before .before .before .before .args .text)) _ _ (c .before .before .before .before .open-sheet .ensures .3) (c .before .before .before .before .open-sheet .ensures .4) in search needs
 
 cast-count : tie.Need-cast-count
 cast-count c = search needs
@@ -38,12 +37,7 @@ part-write-new-sheet-start : tie.Need-part-write-new-sheet-start
 part-write-new-sheet-start c = search needs
 
 part-write-new-sheet-end : tie.Need-part-write-new-sheet-end
-part-write-new-sheet-end c = omega (
-  arith,
-  name-within _ _ _ (c .before .before .before .before .before .before .before .before .open-sheet .ensures .0) (c .before .before .before .before .before .if1 .left) _
-      (c .before .before .before .before .before .before .before .before .open-sheet .ensures .1) _ (c .before .before .before .before .before .before .before .before .open-sheet .ensures .2) _ _
-      (c .before .before .before .before .before .before .before .before .open-sheet .ensures .3) (c .before .before .before .before .before .before .before .before .open-sheet .ensures .4),
-)
+part-write-new-sheet-end c = omega (arith, name-inside _ (now (c .before .before .before .before .before .before .before .before .before .before .before .before .before .args .text)) _ _ (c .before .before .before .before .before .before .before .before .open-sheet .ensures .3) (c .before .before .before .before .before .before .before .before .open-sheet .ensures .4))
 
 array-share-prefix-words : tie.Need-array-share-prefix-words
 array-share-prefix-words c = words-within _ _ _ (c .before .before .before .before .before .before .before .before .before .open-sheet .ensures .0) (c .before .before .before .before .before .before .if1 .left) _

@@ -6,8 +6,8 @@ use mathlib.Core.List.{_++_}
 use lib.ListN.{drop}
 use Rattle.device.specs.Memory.{readingTail}
 use native.Mathlib.Omega.{arith}
-use Rattle.board.specs.LawsOpen.{name-cut}
-use Rattle.moves.specs.LawsWords.{left-refused, found-refused, found-inside, read-room, front-long, read-is, read-left}
+use Rattle.board.specs.LawsOpen.{name-cut, name-inside}
+use Rattle.moves.specs.LawsWords.{left-refused, found-refused, read-room, front-long, read-is, read-left}
 use borrow.Author.Needs.{needs}
 use Rattle.moves.proofs.sheets.open_sheet.Statement.{statement}
 use Rattle.moves.proofs.sheets.open_sheet.Tie as tie
@@ -35,8 +35,7 @@ add-count : tie.Need-add-count
 add-count c = search needs
 
 add-end : tie.Need-add-end
-add-end c = let h = found-inside _ (now (c .before .before .before .before .before .before .before .before .args .text)) _ _ (c .before .before .before .before .open-record .ensures .0)
-    (c .before .before .lifted .ensures) (c .before .if1 .left) _ _ (c .before .before .before .before .open-record .ensures .2) (c .before .before .before .before .open-record .ensures .3) in search needs
+add-end c = let h = name-inside _ (now (c .before .before .before .before .before .before .before .before .args .text)) _ _ (c .before .before .before .before .open-record .ensures .2) (c .before .before .before .before .open-record .ensures .3) in search needs
 
 sub-read-sheet : tie.Need-sub-read-sheet
 sub-read-sheet c = search needs
@@ -45,11 +44,7 @@ part-read-sheet-start : tie.Need-part-read-sheet-start
 part-read-sheet-start c = search needs
 
 part-read-sheet-end : tie.Need-part-read-sheet-end
-part-read-sheet-end c = omega (
-  arith,
-  found-inside _ (now (c .before .before .before .before .before .before .before .before .args .text)) _ _ (c .before .before .before .before .open-record .ensures .0)
-      (c .before .before .lifted .ensures) (c .before .if1 .left) _ _ (c .before .before .before .before .open-record .ensures .2) (c .before .before .before .before .open-record .ensures .3),
-)
+part-read-sheet-end c = omega (arith, name-inside _ (now (c .before .before .before .before .before .before .before .before .args .text)) _ _ (c .before .before .before .before .open-record .ensures .2) (c .before .before .before .before .open-record .ensures .3))
 
 slice-relend-prefix-read-sheet : tie.Need-slice-relend-prefix-read-sheet
 slice-relend-prefix-read-sheet c = read-room _ _ _ _ (c .before .before .before .before .before .open-record .ensures .0) (c .before .before .before .lifted .ensures) (c .before .before .if1 .left) _

@@ -4,7 +4,7 @@ use mathlib.Core.Path.{sym, _∙_}
 use native.Mathlib.Omega.{arith}
 use Rattle.print.specs.LawsPrint.{prints-as, printed}
 use Rattle.board.specs.LawsOpen.{name-cut, name-inside}
-use Rattle.board.specs.LawsBoard.{board-opened, record-there, other-room, other-long}
+use Rattle.board.specs.LawsBoard.{board-opened, other-room, other-long}
 use Rattle.reports.specs.LawsPrograms.{verify-refused, verify-unwanted, verify-within, verify-long, verify-found, verify-count, verify-short}
 use borrow.Author.Needs.{needs}
 use Rattle.reports.proofs.verdicts.verify.Statement.{statement}
@@ -30,9 +30,7 @@ add-count : tie.Need-add-count
 add-count c = search needs
 
 add-end : tie.Need-add-end
-add-end c = let h = name-inside _ (now (c .before .before .before .before .before .before .before .before .before .before .before .args .sheet)) _ _ (c .before .before .before .before .before .open-board .ensures .3)
-    (c .before .before .before .before .before .open-board .ensures .4) (record-there _ (now (c .before .before .before .before .before .before .before .before .before .before .before .args .sheet))
-    (sym (c .before .before .before .before .before .open-board .ensures .0) ∙ (c .before .before .before .if1 .left))) in search needs
+add-end c = let h = name-inside _ (now (c .before .before .before .before .before .before .before .before .before .before .before .args .sheet)) _ _ (c .before .before .before .before .before .open-board .ensures .3) (c .before .before .before .before .before .open-board .ensures .4) in search needs
 
 sub-read-sheet : tie.Need-sub-read-sheet
 sub-read-sheet c = search needs
@@ -41,12 +39,7 @@ part-read-sheet-start : tie.Need-part-read-sheet-start
 part-read-sheet-start c = search needs
 
 part-read-sheet-end : tie.Need-part-read-sheet-end
-part-read-sheet-end c = omega (
-  arith,
-  name-inside _ (now (c .before .before .before .before .before .before .before .before .before .before .before .args .sheet)) _ _ (c .before .before .before .before .before .open-board .ensures .3)
-      (c .before .before .before .before .before .open-board .ensures .4) (record-there _ (now (c .before .before .before .before .before .before .before .before .before .before .before .args .sheet))
-      (sym (c .before .before .before .before .before .open-board .ensures .0) ∙ (c .before .before .before .if1 .left))),
-)
+part-read-sheet-end c = omega (arith, name-inside _ (now (c .before .before .before .before .before .before .before .before .before .before .before .args .sheet)) _ _ (c .before .before .before .before .before .open-board .ensures .3) (c .before .before .before .before .before .open-board .ensures .4))
 
 array-borrow-prefix-aim : tie.Need-array-borrow-prefix-aim
 array-borrow-prefix-aim c = other-room _ _ _ _ (board-opened _ _ _ (c .before .before .before .before .before .before .open-board .ensures .0) (c .before .before .before .before .if1 .left) _
