@@ -97,8 +97,8 @@ uint8_t tickmallet_read_id(const uint8_t *text, size_t text_count, uint16_t *id)
    13: the record, or the name is none that a table can have. 12: the buffer is not P+9 long. 14: the text is not a sheet of P+9 words, or the
    ID on its first line does not fit the record; it is not held against word 8006h. Then, in the new form alone, 18: the sheet has another
    name. 19: the sheet's sum is not the checksum of its words.
-   The name came with 0.5.0. A program compiled with an older header hands over two arguments less, which no linker tells: its calls get the
-   name, and it is compiled anew and not only linked anew. */
+   The name came with 0.5.0. With an older header a call hands over two arguments less, which no linker notices: such a program is given the
+   name and compiled anew, and not only linked anew. */
 uint8_t tickmallet_read_sheet(const tickmallet_device *device, const uint8_t *name, size_t name_count, const uint8_t *text, size_t text_count,
                               uint16_t *reading, size_t reading_count);
 
@@ -113,8 +113,8 @@ uint8_t tickmallet_write_new_sheet(const tickmallet_device *device, const uint8_
                                    const uint16_t *reading, size_t reading_count, uint8_t *out, size_t out_count, size_t *length);
 
 /* Each moves a sheet of either form to the one in its name, under a device table, and stores the length. Record and name are those of the line
-   that the first line's ID fits; that ID stays, where it is not the record's too. A sheet that is in that form already comes out the same,
-   once it is judged in the same way. They take every device that the table can have.
+   that the first line's ID fits; that ID stays, also where it is not the record's. A sheet that is in that form already is judged in the same
+   way, and comes out the same. They take every device that a table can have.
    15: the table is malformed. 14: the sheet's first line is of neither form. 16: its ID fits no line of the table. 14: the other lines are not
    those of a sheet of P+9 words. 18: the sheet has another name than the table. 19: the sheet's sum is not the checksum of its words. 26: the
    buffer is too short. */

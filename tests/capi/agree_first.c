@@ -228,7 +228,7 @@ static void read_order(unsigned faults)
     size_t n = put_faulty(line, id, rest, name, sum);
     unsigned number = record || no_name ? 13 : list ? 12 : line || id || rest ? 14 : name ? 18 : sum ? 19 : 0;
     both_read_sheet(&d, (const uint8_t *)"TINY\t", no_name ? 5 : 4, n, WORDS + (list != 0));
-    holds(proved.number == number, "read_sheet by figures: which refusal comes first");
+    holds(proved.number == number && (!number || untouched(0)), "read_sheet by figures: which refusal comes first, and the buffer stays");
 }
 
 static void move_order(unsigned faults, enum call call)
@@ -236,8 +236,9 @@ static void move_order(unsigned faults, enum call call)
     int whole = faults & 1, line = faults & 2, id = faults & 4, rest = faults & 8, name = faults & 16, sum = faults & 32, room = faults & 64;
     size_t n = put_faulty(line, id, rest, name, sum), need = call == TO_NEW ? NEW : OLD;
     unsigned number = whole ? 15 : line ? 14 : id ? 16 : rest ? 14 : name ? 18 : sum ? 19 : room ? 26 : 0;
-    both_move(call, (const uint8_t *)table, sizeof table - 1 - (whole != 0), sheet, n, need - (room != 0));
-    holds(proved.number == number && proved.a == (number ? 0 : need), "moves by figures: which refusal comes first");
+    both_move(call, (const uint8_t *)table, sizeof table - 1 - (whole != 0), sheet, n, room ? need - 1 : need + 8);
+    holds(proved.number == number && proved.a == (number ? 0 : need) && untouched(proved.a),
+          "moves by figures: which refusal comes first, and what is not written stays");
 }
 
 static void write_order(unsigned faults)
@@ -252,8 +253,9 @@ static void write_order(unsigned faults)
     if (no_word)
         reading[WORDS - 1] = 0x4000;
     unsigned number = record || no_name ? 13 : list || no_word ? 21 : room ? 26 : 0;
-    both_write_new_sheet(&d, (const uint8_t *)"TINY\n", no_name ? 5 : 4, reading, WORDS + (list != 0), NEW - (room != 0));
-    holds(proved.number == number && proved.a == (number ? 0 : NEW), "write_new_sheet by figures: which refusal comes first");
+    both_write_new_sheet(&d, (const uint8_t *)"TINY\n", no_name ? 5 : 4, reading, WORDS + (list != 0), room ? NEW - 1 : NEW + 8);
+    holds(proved.number == number && proved.a == (number ? 0 : NEW) && untouched(proved.a),
+          "write_new_sheet by figures: which refusal comes first, and what is not written stays");
 }
 
 /* ---- names that are an argument */

@@ -80,7 +80,8 @@ static unsigned any_bit(unsigned mask)
     return 0;
 }
 
-/* A line that two bits keep apart from the board's and from each other one made with them: of these bits it has `turned` turned. */
+/* A line that two bits of the board's mask keep apart from the board's line and from the other ones here; `turned` are those that it has
+   turned. */
 static size_t put_other(size_t n, const struct board *b, unsigned bits, unsigned turned)
 {
     uint8_t name[TICKMALLET_MOST_NAME + 1];
@@ -114,13 +115,14 @@ static void damage_table(const struct board *b)
     }
 }
 
+/* With room about the length of what comes out, or, of a sheet that is refused, its own. */
 static void both_ways(size_t n)
 {
     size_t need;
-    plain_to_new(table, table_len, sheet, n, other, sizeof other, &need);
-    both_move(TO_NEW, table, table_len, sheet, n, some_room(need));
-    plain_to_old(table, table_len, sheet, n, other, sizeof other, &need);
-    both_move(TO_OLD, table, table_len, sheet, n, some_room(need));
+    uint8_t number = plain_to_new(table, table_len, sheet, n, other, sizeof other, &need);
+    both_move(TO_NEW, table, table_len, sheet, n, some_room(number ? n : need));
+    number = plain_to_old(table, table_len, sheet, n, other, sizeof other, &need);
+    both_move(TO_OLD, table, table_len, sheet, n, some_room(number ? n : need));
 }
 
 void agree_moves(const struct board *b)

@@ -33,23 +33,36 @@ struct side proved, plain;
 static unsigned passed, failed, seen[CALLS][NUMBERS][FILLS];
 static size_t bytes_lent, words_lent, cells_lent;
 static unsigned fill;
+static const int with[FILLS] = {0x5a, 0xa5, 0x00, 0xff};
 
 /* No value that is stored can be what stood there before under every fill. */
-static void fill_side(struct side *s, int with)
+static void fill_side(struct side *s)
 {
-    memset(s, with, offsetof(struct side, bytes));
-    memset(s->bytes, with, bytes_lent);
-    memset(s->words, with, 2 * words_lent);
-    memset(s->cells, with, 2 * cells_lent);
+    memset(s, with[fill], offsetof(struct side, bytes));
+    memset(s->bytes, with[fill], bytes_lent);
+    memset(s->words, with[fill], 2 * words_lent);
+    memset(s->cells, with[fill], 2 * cells_lent);
 }
 
 void begin(size_t bytes, size_t words, size_t cells)
 {
-    static const int with[FILLS] = {0x5a, 0xa5, 0x00, 0xff};
     bytes_lent = bytes + GUARD, words_lent = words + GUARD, cells_lent = cells + GUARD;
     fill = below(FILLS);
-    fill_side(&proved, with[fill]);
-    fill_side(&plain, with[fill]);
+    fill_side(&proved);
+    fill_side(&plain);
+}
+
+static int is_filled(const void *buffer, size_t count)
+{
+    for (const uint8_t *b = buffer; count; b++, count--)
+        if (*b != with[fill])
+            return 0;
+    return 1;
+}
+
+int untouched(size_t from)
+{
+    return is_filled(proved.bytes + from, bytes_lent - from) && is_filled(proved.words, 2 * words_lent) && is_filled(proved.cells, 2 * cells_lent);
 }
 
 static int same(void)

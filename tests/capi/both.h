@@ -33,6 +33,9 @@ void begin(size_t bytes, size_t words, size_t cells);
 /* After them: compares all of it. */
 void end(enum call call);
 
+/* Whether the proved side has the lent buffers as they were filled, the bytes from a place on. */
+int untouched(size_t from);
+
 /* How often a call has answered 0 until now. */
 unsigned zeros(enum call call);
 

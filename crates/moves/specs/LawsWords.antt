@@ -22,7 +22,7 @@ use Rattle.judge.specs.Checksum.{checksumOf}
 use Rattle.sheet.specs.FirstLine.{firstLine}
 use Rattle.sheet.specs.Sheet.{sheetWith, newWith, wordsIn, sheetNumber, readNumber, readBuffer}
 use Rattle.sheet.specs.LawsFirstLine.{id-small}
-use Rattle.sheet.specs.LawsRead.{mostReading}
+use Rattle.sheet.specs.LawsRead.{longestReading}
 use Rattle.sheet.specs.LawsSheet.{length-words}
 use Rattle.sheetwrite.specs.declared.Written.{Written}
 use Rattle.sheetwrite.specs.Write.{sheetText, sheetLength, written, writtenText, newText, newLength, newWritten, newWrittenText}
@@ -70,7 +70,7 @@ module _ (table text : List ℕ) where
       pub found-there : Finds table text
       found-there = finds table text there
 
-      module _ (d : Device) (is : d ≡ recordOf table text) (before : List ℕ) (long : length before ≡ mostReading) where
+      module _ (d : Device) (is : d ≡ recordOf table text) (before : List ℕ) (long : length before ≡ longestReading) where
         keeps : deviceOk d ≡ true
         keeps = ap deviceOk is ∙ found-there .sound
 
@@ -118,7 +118,7 @@ module _ (table text : List ℕ) where
 
 -- a sheet that was read into a local buffer
 module _ (table text : List ℕ) (number : ℕ) (e : number ≡ moveNumber table text) (z : number ≡ 0) (d : Device) (is : d ≡ recordOf table text)
-    (words : List ℕ) (f : words ≡ wordsLeft table text (replicate mostReading 0)) where
+    (words : List ℕ) (f : words ≡ wordsLeft table text (replicate longestReading 0)) where
   ok : moveNumber table text ≡ 0
   ok = sym e ∙ z
 
@@ -128,12 +128,12 @@ module _ (table text : List ℕ) (number : ℕ) (e : number ≡ moveNumber table
   keeps₂ : deviceOk d ≡ true
   keeps₂ = ap deviceOk is ∙ fine .sound
 
-  stored : words ≡ sets (replicate mostReading 0) 0 (boardReading table text)
+  stored : words ≡ sets (replicate longestReading 0) 0 (boardReading table text)
   unfolding wordsLeft
   stored = f ∙ pick-true _ _ _ (eq-eqb (moveNumber table text) 0 ok)
 
-  size : length words ≡ mostReading
-  size = ap length stored ∙ (length-sets (replicate {A = ℕ} mostReading 0) 0 (boardReading table text) ∙ length-replicate {A = ℕ} mostReading 0)
+  size : length words ≡ longestReading
+  size = ap length stored ∙ (length-sets (replicate {A = ℕ} longestReading 0) 0 (boardReading table text) ∙ length-replicate {A = ℕ} longestReading 0)
 
   pub words-within : d .words + readingTail ≤ length words
   words-within = let most : d .words ≤ mostWords = rules d keeps₂ .most in rw size (omega arith)
@@ -147,8 +147,8 @@ module _ (table text : List ℕ) (number : ℕ) (e : number ≡ moveNumber table
 
   words-are : take (d .words + readingTail) words ≡ boardReading table text
   words-are =
-      let room : 0 + length (boardReading table text) ≤ length (replicate {A = ℕ} mostReading 0) = rw (zero-add, count₂, length-replicate {A = ℕ} mostReading 0) (let w : d .words + readingTail ≤ mostReading = rw size at words-within in w) in
-      ap (take (d .words + readingTail)) (stored ∙ sets-eq (boardReading table text) (replicate mostReading 0) 0 room)
+      let room : 0 + length (boardReading table text) ≤ length (replicate {A = ℕ} longestReading 0) = rw (zero-add, count₂, length-replicate {A = ℕ} longestReading 0) (let w : d .words + readingTail ≤ longestReading = rw size at words-within in w) in
+      ap (take (d .words + readingTail)) (stored ∙ sets-eq (boardReading table text) (replicate longestReading 0) 0 room)
       ∙ take-at (boardReading table text) _ (d .words + readingTail) count₂
 
   abbrev id : ℕ

@@ -13,13 +13,13 @@ ghost use Rattle.device.specs.Memory.{readingTail};
 ghost use Rattle.device.specs.LawsId.{withId};
 ghost use Rattle.table.specs.Table.{foundIn};
 ghost use Rattle.sheet.specs.FirstLine.{firstLine};
-ghost use Rattle.sheet.specs.LawsRead.{mostReading};
+ghost use Rattle.sheet.specs.LawsRead.{longestReading};
 ghost use Rattle.board.specs.Open.{recordOf};
 ghost use Rattle.moves.specs.Move.{moveNumber, newOf, oldOf, moved, movedText};
 ghost use Rattle.moves.specs.LawsWords.{formOf, wordsLeft};
 
 // The most words that a reading has: a move serves every record.
-const MOST_READING: usize = (MOST_WORDS as usize) + READING_TAIL;
+const LONGEST_READING: usize = (MOST_WORDS as usize) + READING_TAIL;
 
 // Writes a sheet in the new form: 15, 14, 16, 14, 18, 19 or 26 where it cannot, and then nothing is written.
 pub fn to_new(table: &[u8], text: &[u8], out: &mut [u8]) -> Written
@@ -39,7 +39,7 @@ pub fn to_old(table: &[u8], text: &[u8], out: &mut [u8]) -> Written
 pub(crate) fn move_to(new: bool, table: &[u8], text: &[u8], out: &mut [u8]) -> Written
     ensures { λ r. ⌜ (r ≡ moved (moveNumber (now (table .entry)) (now (text .entry))) (formOf new (now (table .entry)) (now (text .entry))) (now (out .entry))) × (now (out .exit) ≡ movedText (moveNumber (now (table .entry)) (now (text .entry))) (formOf new (now (table .entry)) (now (text .entry))) (now (out .entry))) ⌝ }
 {
-    let mut words = [0u16; MOST_READING];
+    let mut words = [0u16; LONGEST_READING];
     let opened = open_sheet(table, text, &mut words);
     if opened.number != 0 {
         return Written {
@@ -60,7 +60,7 @@ pub(crate) fn move_to(new: bool, table: &[u8], text: &[u8], out: &mut [u8]) -> W
 
 // Finds the record of a sheet and reads its words; a sheet that is refused leaves the buffer.
 fn open_sheet(table: &[u8], text: &[u8], words: &mut [u16]) -> Opened
-    requires { ⌜ length (now words) ≡ mostReading ⌝ }
+    requires { ⌜ length (now words) ≡ longestReading ⌝ }
     ensures { λ r. ⌜ (r .number ≡ moveNumber (now (table .entry)) (now (text .entry))) × (r .device ≡ recordOf (now (table .entry)) (now (text .entry))) × (now (words .exit) ≡ wordsLeft (now (table .entry)) (now (text .entry)) (now (words .entry))) × (r .«name_at» ≡ foundIn (now (table .entry)) (firstLine (now (text .entry)) .id) .«name_at») × (r .«name_len» ≡ foundIn (now (table .entry)) (firstLine (now (text .entry)) .id) .«name_len») ⌝ }
 {
     let opened = board::open_record(table, text);

@@ -208,15 +208,15 @@ module _ (d : Device) (name t : List ℕ) (id end sum size : ℕ) (h : HeadOf t 
           }))
 
 -- words stored aside, in a buffer of the most words
-abbrev pub mostReading : ℕ
-mostReading = mostWords + readingTail
+abbrev pub longestReading : ℕ
+longestReading = mostWords + readingTail
 
 module _ (d : Device) (sound : deviceOk d ≡ true) where
-  pub aside-room : d .words + readingTail ≤ length (replicate {A = ℕ} mostReading 0)
-  aside-room = let few : d .words ≤ mostWords = rules d sound .most in rw (length-replicate {A = ℕ} mostReading 0) (omega arith)
+  pub aside-room : d .words + readingTail ≤ length (replicate {A = ℕ} longestReading 0)
+  aside-room = let few : d .words ≤ mostWords = rules d sound .most in rw (length-replicate {A = ℕ} longestReading 0) (omega arith)
 
-  pub aside-long : length (take (d .words + readingTail) (replicate {A = ℕ} mostReading 0)) ≡ d .words + readingTail
-  aside-long = length-take-le (d .words + readingTail) (replicate {A = ℕ} mostReading 0) aside-room
+  pub aside-long : length (take (d .words + readingTail) (replicate {A = ℕ} longestReading 0)) ≡ d .words + readingTail
+  aside-long = length-take-le (d .words + readingTail) (replicate {A = ℕ} longestReading 0) aside-room
 
   module _ (body : List ℕ) (good : bodyOk (d .words) body ≡ true) (words : List ℕ) (stored : words ≡ bodyWords (d .words) body) (rest : List ℕ) where
     count : length words ≡ d .words + readingTail

@@ -16,7 +16,7 @@ ghost use Rattle.sheet.specs.Sheet.{bodyWords, bodyOk, sheetOk, sheetNum
 ghost use Rattle.sheet.specs.LawsFirstLine.{HeadOf};
 
 // The most words that a reading has.
-const MOST_READING: usize = (MOST_WORDS as usize) + READING_TAIL;
+const LONGEST_READING: usize = (MOST_WORDS as usize) + READING_TAIL;
 
 // Reads a sheet of either form into a buffer: 13, 12, 14, 18 or 19 where it cannot, and then the buffer stays.
 pub fn read_sheet(d: Device, name: &[u8], text: &[u8], buffer: &mut [u16]) -> u8
@@ -104,7 +104,7 @@ fn sum_in(d: Device, body: &[u8]) -> u16
     requires { ⌜ (deviceOk d ≡ true) × (bodyOk (d .words) (now body) ≡ true) ⌝ }
     ensures { λ r. ⌜ r ≡ checksumOf d (bodyWords (d .words) (now (body .entry))) ⌝ }
 {
-    let mut words = [0u16; MOST_READING];
+    let mut words = [0u16; LONGEST_READING];
     let program = d.words as usize;
     let count = program + READING_TAIL;
     store(program, body, &mut words[..count]);
