@@ -1,13 +1,13 @@
 -- Laws of the moves: what a caller has of a sheet that is not refused, that each form moved to the other and back is the same bytes, and the answers.
-use Prim.Native.Nat.{ℕ, _+_, _≤_, _<_}
+use Prim.Native.Nat.{ℕ, _≤_}
 use native.Mathlib.Nat.{zero-add}
 use native.Mathlib.Omega.{arith}
 use mathlib.Core.Path.{_≡_, refl, sym, ap, subst, _∙_}
 use mathlib.Core.Bool.{Bool, true, false}
 use mathlib.Core.Logic.{inl, inr}
-use mathlib.Core.List.{List, _++_}
+use mathlib.Core.List.{List}
 use lib.Dec.{leb, eqb}
-use lib.ListN.{length, take, drop}
+use lib.ListN.{length, take}
 use lib.Seq.{sets, sets-eq, take-at}
 use borrow.Author.Tests.{eq-eqb, eqb-true, ne-eqb, le-leb, leb-true}
 use Rattle.words.specs.Choice.{pick, unless}
@@ -15,12 +15,12 @@ use Rattle.words.specs.LawsChoice.{pick-true, pick-false, true-not-false}
 use Rattle.words.specs.LawsTests.{by-eq}
 use Rattle.device.specs.declared.Device.{Device}
 use Rattle.device.specs.Record.{deviceOk, fits}
-use Rattle.device.specs.Memory.{readingTail, readingOk}
+use Rattle.device.specs.Memory.{readingOk}
 use Rattle.table.specs.Table.{nameOk, tableOk, tableLines, hasId, foundIn, nameAt}
 use Rattle.table.specs.LawsTable.{found-sound}
 use Rattle.table.specs.LawsName.{found-name}
 use Rattle.judge.specs.Checksum.{checksumOf}
-use Rattle.sheet.specs.FirstLine.{idIn, isNew, nameIn, sumIn, lineOk, firstLine}
+use Rattle.sheet.specs.FirstLine.{idIn, isNew, lineOk, firstLine}
 use Rattle.sheet.specs.Sheet.{sheetWith, newWith, wordsIn, sheetOk, sheetNumber}
 use Rattle.sheet.specs.LawsFirstLine.{first-given, id-stands}
 use Rattle.sheet.specs.LawsSheet.{ReadOld, ReadNew, written-read, new-written-read, read-line-1, read-fits, read-sound, read-written, taken-written, taken, new-exactly, sum-small}

@@ -1,5 +1,5 @@
 -- Laws of the programs newsheet and oldsheet: their text from what the code's parts answer, and how long it is at most.
-use Prim.Native.Nat.{ℕ, _+_, _≤_}
+use Prim.Native.Nat.{ℕ, _≤_}
 use native.Mathlib.Omega.{arith}
 use mathlib.Core.Path.{_≡_, refl, sym, ap, _∙_}
 use mathlib.Core.Bool.{Bool, true, false, _&&_}
@@ -10,17 +10,14 @@ use borrow.Author.Tests.{eq-eqb, ne-eqb, leb-true}
 use Rattle.words.specs.Choice.{pick, unless}
 use Rattle.words.specs.LawsChoice.{pick-true, pick-false, first-holds, second-holds}
 use Rattle.words.specs.LawsTests.{by-eq}
-use Rattle.device.specs.declared.Device.{Device}
 use Rattle.table.specs.Table.{nameOk, allPrintable}
-use Rattle.judge.specs.Checksum.{checksumOf}
-use Rattle.sheet.specs.FirstLine.{firstLine}
 use Rattle.sheet.specs.Sheet.{bodyLength}
 use Rattle.sheetwrite.specs.declared.Written.{Written}
 use Rattle.sheetwrite.specs.Write.{sheetLength, newLength}
 use Rattle.sheetwrite.specs.LawsWrite.{length-with, length-new-with}
 use Rattle.print.specs.Print.{refusedText}
 use Rattle.print.specs.LawsLines.{either-short}
-use Rattle.board.specs.Open.{mostProgram, recordOf, nameOf, openNumber, boardNumber, boardReading}
+use Rattle.board.specs.Open.{mostProgram, recordOf, nameOf, openNumber, boardNumber}
 use Rattle.board.specs.LawsOpen.{opened-served, opened-named, served-most}
 use Rattle.board.specs.LawsBoard.{board-refused, board-found, record-there}
 use Rattle.moves.specs.Move.{moveNumber, newOf, oldOf, moved, movedText}

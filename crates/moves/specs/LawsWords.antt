@@ -1,5 +1,5 @@
 -- Laws of the words that a move reads, and of what it writes of them.
-use Prim.Native.Nat.{ℕ, _+_, _-_, _≤_, _<_}
+use Prim.Native.Nat.{ℕ, _+_, _-_, _≤_}
 use native.Mathlib.Nat.{zero-add}
 use native.Mathlib.Omega.{arith}
 use mathlib.Core.Path.{_≡_, refl, sym, ap, _∙_}
@@ -17,7 +17,7 @@ use Rattle.device.specs.Record.{mostWords, deviceOk}
 use Rattle.device.specs.Memory.{readingTail, readingOk}
 use Rattle.device.specs.LawsRecord.{rules}
 use Rattle.device.specs.LawsId.{withId, with-id}
-use Rattle.table.specs.Table.{nameOk, foundIn}
+use Rattle.table.specs.Table.{nameOk}
 use Rattle.judge.specs.Checksum.{checksumOf}
 use Rattle.sheet.specs.FirstLine.{firstLine}
 use Rattle.sheet.specs.Sheet.{sheetWith, newWith, wordsIn, sheetNumber, readNumber, readBuffer}
@@ -28,7 +28,7 @@ use Rattle.sheetwrite.specs.declared.Written.{Written}
 use Rattle.sheetwrite.specs.Write.{sheetText, sheetLength, written, writtenText, newText, newLength, newWritten, newWrittenText}
 use Rattle.sheetwrite.specs.LawsWrite.{with-text, with-new, length-sheet, length-new-sheet}
 use Rattle.board.specs.Open.{recordOf, nameOf, openNumber, boardReading}
-use Rattle.board.specs.LawsOpen.{name-cut, read-number, sheet-words}
+use Rattle.board.specs.LawsOpen.{read-number, sheet-words}
 use Rattle.moves.specs.Move.{moveNumber, newOf, oldOf, moved, movedText}
 use Rattle.moves.specs.LawsMove.{foundNumber, lifted-is, move-refused, move-found, move-there, Finds, finds, move-words, Moved, moved-written}
 

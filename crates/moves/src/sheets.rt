@@ -9,7 +9,6 @@ ghost use Prim.Native.Nat.{_+_};
 ghost use lib.ListN.{length};
 ghost use lib.Dec.{eqb};
 ghost use Rattle.words.specs.Choice.{pick};
-ghost use Rattle.device.specs.Memory.{readingTail};
 ghost use Rattle.device.specs.LawsId.{withId};
 ghost use Rattle.table.specs.Table.{foundIn};
 ghost use Rattle.sheet.specs.FirstLine.{firstLine};

@@ -1,6 +1,6 @@
 -- Laws of line 1: what its test tells in each form, what the code's parts come to, and that what is written in either form is read back.
 use Prim.Native.Nat.{ℕ, suc, _+_, _-_, _≤_, _<_}
-use native.Mathlib.Nat.{zero-add, not-suc-le-zero, le-of-suc-le-suc}
+use native.Mathlib.Nat.{not-suc-le-zero, le-of-suc-le-suc}
 use native.Mathlib.Omega.{arith}
 use native.Mathlib.Decide.{decLt}
 use mathlib.Core.Path.{_≡_, refl, sym, ap, _∙_}
@@ -13,17 +13,17 @@ use borrow.Author.Tests.{lt-ltb, ltb-true, eq-eqb, eqb-true, ne-eqb}
 use Rattle.bytes.specs.Bytes.{indexOf, indexAfter, slice}
 use Rattle.words.specs.Choice.{pick}
 use Rattle.words.specs.Word.{isWord}
-use Rattle.words.specs.LawsChoice.{pick-true, pick-false, both, first-holds, second-holds, first-fails, second-fails, true-not-false, decided}
+use Rattle.words.specs.LawsChoice.{pick-true, pick-false, both, first-holds, second-holds, true-not-false}
 use Rattle.words.specs.LawsTests.{fails, by-test}
 use Rattle.words.specs.LawsLists.{getD-past}
-use Rattle.words.specs.LawsWord.{is-word, not-word, word-lt}
+use Rattle.words.specs.LawsWord.{is-word, word-lt}
 use Rattle.numerals.specs.Text.{tab, lf}
 use Rattle.numerals.specs.Hex.{within, capitalOf, wordBy, wordText}
 use Rattle.numerals.specs.LawsHex.{length-word-text, within-low}
 use Rattle.table.specs.Table.{allPrintable, nameOk}
 use Rattle.sheet.specs.declared.Line1.{Line1}
 use Rattle.sheet.specs.FirstLine.{sameText, oldLine, newLine, idIn, isNew, nameIn, sumIn, lineIn, lineOk, restIn, firstLine}
-use Rattle.sheet.specs.LawsStands.{Stands, stands-join, stands-left, stands-right, stands-byte, byte-stands, stands-next, stands-cons, stands-part, stands-front, front-stands, stands-self, stands-word, word-stands, same-self, same-equal}
+use Rattle.sheet.specs.LawsStands.{Stands, stands-join, stands-left, stands-right, stands-byte, byte-stands, stands-next, stands-cons, stands-part, stands-front, front-stands, stands-word, word-stands, same-self, same-equal}
 
 -- ---- lengths
 
@@ -397,15 +397,6 @@ module _ (t : List ℕ) where
       by : (b : Bool) → pick {A = Line1} b (record { number = 0; id = idIn t }) (record { number = 14; id = 0 }) .number ≡ 0
           → pick {A = Line1} b (record { number = 0; id = idIn t }) (record { number = 14; id = 0 }) .id ≡ idIn t
       by true z = unfold pick in refl
-      by false z = absurd (unfold pick in omega (arith, z))
-
-  -- and that line is of one of the forms
-  pub first-holds-line : firstLine t .number ≡ 0 → lineOk t ≡ true
-  unfolding firstLine
-  first-holds-line = by (lineOk t)
-    where
-      by : (b : Bool) → pick {A = Line1} b (record { number = 0; id = idIn t }) (record { number = 14; id = 0 }) .number ≡ 0 → b ≡ true
-      by true z = refl
       by false z = absurd (unfold pick in omega (arith, z))
 
   pub first-refused : lineOk t ≡ false → record { number = 14; id = 0 } ≡ firstLine t

@@ -28,9 +28,8 @@ use Rattle.table.specs.Table.{nameOk}
 use Rattle.judge.specs.declared.Sum.{Sum}
 use Rattle.judge.specs.Checksum.{checksumOf, summed}
 use Rattle.judge.specs.LawsChecksum.{summed-0}
-use Rattle.sheet.specs.declared.Line1.{Line1}
-use Rattle.sheet.specs.FirstLine.{sameText, idIn, isNew, nameIn, sumIn, lineIn, lineOk, restIn, firstLine}
-use Rattle.sheet.specs.Sheet.{digitsAt, bodyWords, bodyOk, wordsIn, sheetOk, nameHolds, sumHolds, sheetNumber, readNumber, readBuffer}
+use Rattle.sheet.specs.FirstLine.{sameText, idIn, isNew, lineIn, lineOk, restIn, firstLine}
+use Rattle.sheet.specs.Sheet.{digitsAt, bodyWords, bodyOk, wordsIn, sheetOk, nameHolds, sheetNumber, readNumber, readBuffer}
 use Rattle.sheet.specs.LawsStands.{same-equal}
 use Rattle.sheet.specs.LawsFirstLine.{HeadOf, first-given, first-refused}
 use Rattle.sheet.specs.LawsBody.{length-body-words, word-in, body-sound}

@@ -1,6 +1,6 @@
 -- What the writers write is read back: by `sheet`, under the same record and name, as the same reading.
 use Prim.Native.Nat.{ℕ}
-use mathlib.Core.Path.{_≡_, refl, sym, ap, _∙_}
+use mathlib.Core.Path.{_≡_, refl}
 use mathlib.Core.Bool.{true}
 use mathlib.Core.Logic.{inl, inr}
 use mathlib.Core.List.{List}
@@ -12,7 +12,7 @@ use Rattle.device.specs.LawsId.{fits-own}
 use Rattle.table.specs.Table.{nameOk}
 use Rattle.judge.specs.Checksum.{checksumOf}
 use Rattle.sheet.specs.Sheet.{wordsIn, sheetNumber}
-use Rattle.sheet.specs.LawsSheet.{ReadOld, ReadNew, written-read, new-written-read, new-exactly, sum-small}
+use Rattle.sheet.specs.LawsSheet.{written-read, new-written-read, new-exactly, sum-small}
 use Rattle.sheetwrite.specs.Write.{sheetText, newText}
 
 module _ (d : Device) (sound : deviceOk d ≡ true) (name : List ℕ) (named : nameOk name ≡ true) (l : List ℕ) (ok : readingOk (d .words) l ≡ true) where

@@ -27,7 +27,7 @@ use Rattle.judge.specs.declared.Sum.{Sum}
 use Rattle.judge.specs.Checksum.{configSum, checksumOf, summed}
 use Rattle.judge.specs.LawsChecksum.{summed-0, summed-21}
 use Rattle.sheet.specs.FirstLine.{oldLine, newLine}
-use Rattle.sheet.specs.Sheet.{fields, lineText, programLines, bodyText, bodyLength, sheetWith, newWith}
+use Rattle.sheet.specs.Sheet.{fields, lineText, programLines, bodyText, sheetWith, newWith}
 use Rattle.sheet.specs.LawsFirstLine.{length-old, length-new}
 use Rattle.sheet.specs.LawsBody.{length-fields, length-line, length-lines, length-body}
 use Rattle.sheetwrite.specs.declared.Written.{Written}
@@ -219,20 +219,6 @@ abbrev pub WroteNew : Device → (name l out : List ℕ) → Written → List �
 WroteNew d name l out r after = (r ≡ newWritten d name l out) × (after ≡ newWrittenText d name l out)
 
 module _ (d : Device) (name l out : List ℕ) where
-  -- no more is written than there is room for
-  pub new-written-short : (w : Written) → w ≡ newWritten d name l out → w .length ≤ length out
-  unfolding newWritten
-  new-written-short w e = rw e (by (deviceOk d && nameOk name) (readingOk (d .words) l) (leb (newLength d name) (length out)) (leb-true (newLength d name) (length out)))
-    where
-      by : (a b c : Bool) → (c ≡ true → newLength d name ≤ length out)
-          → pick {A = Written} a
-          (pick b (pick c (record { number = 0; length = newLength d name }) (record { number = 26; length = 0 })) (record { number = 21; length = 0 }))
-          (record { number = 13; length = 0 }) .length ≤ length out
-      by true true true r = unfold pick in r refl
-      by true true false r = unfold pick in omega arith
-      by true false c r = unfold pick in omega arith
-      by false b c r = unfold pick in omega arith
-
   new-13 : (deviceOk d && nameOk name) ≡ false → WroteNew d name l out (record { number = 13; length = 0 }) out
   unfolding newWritten newWrittenText pick
   new-13 f = (rw f, rw f)

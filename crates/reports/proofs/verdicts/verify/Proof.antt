@@ -1,6 +1,6 @@
 -- The board is refused, or the wanted sheet under its record and name, or the two readings are judged.
 use denote.Ref.{now}
-use mathlib.Core.Path.{sym, _∙_}
+use mathlib.Core.Path.{sym}
 use native.Mathlib.Omega.{arith}
 use Rattle.print.specs.LawsPrint.{prints-as, printed}
 use Rattle.board.specs.LawsOpen.{name-cut, name-inside}

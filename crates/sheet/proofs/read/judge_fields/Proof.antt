@@ -1,6 +1,5 @@
 -- The name, then the sum.
 use denote.Ref.{now}
-use mathlib.Core.Path.{sym, _∙_}
 use native.Mathlib.Omega.{arith}
 use Rattle.sheet.specs.LawsRead.{fields-end-in, fields-body, fields-18, fields-19, fields-0}
 use borrow.Author.Needs.{needs}

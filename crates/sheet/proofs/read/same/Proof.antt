@@ -2,7 +2,6 @@
 use Prim.Native.Nat.{_-_, _≤_}
 use mathlib.Core.Path.{_≡_, refl}
 use native.Mathlib.Omega.{arith}
-use borrow.Author.Needs.{needs}
 use lib.ListN.{length, drop}
 use Rattle.sheet.specs.FirstLine.{sameText}
 use Rattle.sheet.specs.LawsRead.{same-long, same-no, same-on, same-done}

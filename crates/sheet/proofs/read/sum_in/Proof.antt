@@ -1,6 +1,5 @@
 -- The words are stored aside and summed.
 use mathlib.Core.Path.{sym}
-use native.Mathlib.Omega.{arith}
 use Rattle.device.specs.LawsRecord.{rules}
 use Rattle.sheet.specs.LawsBody.{body-sound}
 use Rattle.sheet.specs.LawsRead.{aside-room, aside-long, stored-within, stored-long, sum-of-stored}
