@@ -149,6 +149,8 @@ uint8_t tickmallet_run(const tickmallet_device *device, uint16_t *cells, size_t 
 
 /* Plans an update of a board that holds the reading: what the image gives changes, every other word stays, and a cut at any step followed
    by the same stream again comes to the same. Stores the number of steps; the stream is three times as many bytes.
+   A row in which a word differs is written whole. It is erased before that just if a bit of one of its words has to go from 0 to 1; the four
+   user IDs are written and erased in the same way, as if they were one row.
    Of a configuration word the image gives the bits under its mask; the others stay as read.
    13; 20: not an image; 21: not a reading; 22: word 8006h does not fit the record; 23: the reading is protected; 24: a configuration
    bit under its mask would have to go from 0 to 1; 26: the buffer is too short. */

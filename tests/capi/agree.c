@@ -12,6 +12,7 @@ static void agree_board(void)
     agree_moves(&board);
     agree_hex(&board);
     agree_streams(&board);
+    agree_erases(&board);
     agree_judgements(&board);
 }
 
@@ -40,6 +41,7 @@ int main(void)
     agree_masks();
     agree_first_ids();
     agree_id_words();
+    agree_erase_cases();
     agree_first_lines();
     agree_moved();
     agree_larger(middle_board, MIDDLE, "each call takes boards of 8192 words and more");

@@ -10,12 +10,16 @@ void agree_sheets(const struct board *b);
 void agree_moves(const struct board *b);
 void agree_hex(const struct board *b);
 void agree_streams(const struct board *b);
+void agree_erases(const struct board *b);
 void agree_judgements(const struct board *b);
 
 /* IDs under their masks, by figures: in tables, on the first line of sheets, in 8006h. Tables after agree_tables, whose count is printed. */
 void agree_masks(void);
 void agree_first_ids(void);
 void agree_id_words(void);
+
+/* What an update erases, by figures; after agree_erases, whose counts are printed. */
+void agree_erase_cases(void);
 
 /* First lines of either form, and moves from one form to the other, by figures. */
 void agree_first_lines(void);

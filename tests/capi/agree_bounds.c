@@ -11,22 +11,39 @@ static uint16_t image[TICKMALLET_IMAGE_WORDS(P)], reading[TICKMALLET_READING_WOR
 static uint8_t stream[TICKMALLET_STREAM_BYTES(P, 8)], reads[TICKMALLET_READ_BACK_BYTES(P)], hex[TICKMALLET_HEX_BYTES(P)];
 static uint8_t old_sheet[TICKMALLET_SHEET_BYTES(P)], new_sheet[TICKMALLET_NEW_SHEET_BYTES(P, TICKMALLET_MOST_NAME)];
 
-/* A board that is 3FFFh all over, and an image that gives another value to every word that can be given. */
-static void all_different(size_t p)
+/* A board whose program words and user IDs are all the same, and an image that gives another value to every word that can be given. */
+static void all_from(size_t p, uint16_t read)
 {
     for (size_t i = 0; i < p + 9; i++) {
         image[i] = i >= p + 4 && i < p + 7 ? 0xffff : 0x1580;
-        reading[i] = 0x3fff;
+        reading[i] = i < p + 4 ? read : 0x3fff;
     }
     reading[p + 6] = 0x3023;
+}
+
+/* Every word rises, and falls too: no update is longer. */
+static void all_different(size_t p)
+{
+    all_from(p, 0x0a7f);
+}
+
+static void updates(const tickmallet_device *d)
+{
+    size_t p = d->words, r = d->row, steps;
+    all_different(p);
+    holds(tickmallet_update(d, image, p + 9, reading, p + 9, stream, TICKMALLET_STREAM_BYTES(p, r) - 1, &steps) == 26,
+          "an update of every word does not go into less than TICKMALLET_STREAM_BYTES");
+    holds(tickmallet_update(d, image, p + 9, reading, p + 9, stream, TICKMALLET_STREAM_BYTES(p, r), &steps) == 0 && steps == TICKMALLET_MOST_STEPS(p, r),
+          "an update of every word takes TICKMALLET_MOST_STEPS, if every row rises and the user IDs do");
+    all_from(p, 0x3fff);
+    holds(tickmallet_update(d, image, p + 9, reading, p + 9, stream, TICKMALLET_STREAM_BYTES(p, r), &steps) == 0 && steps == 2 * p + p / r + 21,
+          "of a blank board it takes 2P + P/R + 21 steps");
 }
 
 static void streams(const tickmallet_device *d)
 {
     size_t p = d->words, r = d->row, steps, done, words_read;
     all_different(p);
-    holds(tickmallet_update(d, image, p + 9, reading, p + 9, stream, TICKMALLET_STREAM_BYTES(p, r), &steps) == 0 && steps == TICKMALLET_MOST_STEPS(p, r),
-          "an update of every word takes TICKMALLET_MOST_STEPS");
     holds(tickmallet_fresh(d, image, p + 9, d->id, stream, TICKMALLET_STREAM_BYTES(p, r), &steps) == 0 && steps == 2 * p + p / r + 23 &&
               steps <= TICKMALLET_MOST_STEPS(p, r),
           "a fresh stream of every word takes 2P + P/R + 23 steps");
@@ -136,6 +153,7 @@ void agree_bounds(void)
         {8, 8}, {16, 8}, {16, 16}, {32, 32}, {96, 32}, {8192, 8}, {8200, 8}, {P / 2, 16}, {P - 32, 32}, {P, 8}, {P, 16}, {P, 32}}; /* P and R */
     for (int i = 0; i < 12; i++) {
         const tickmallet_device d = {0x3023, sizes[i][0], sizes[i][1], 0x3eff, 0x3ff3, 0x3fff};
+        updates(&d);
         streams(&d);
         sheets(&d);
         for (size_t name_len = 1; name_len <= TICKMALLET_MOST_NAME; name_len += 5)

@@ -102,27 +102,29 @@ static uint16_t value(size_t i)
     return (uint16_t)((i + 0x0b57 * (i >> 14)) & 0x3fff);
 }
 
-/* An image that gives every word, and a reading in which no bit of a program word or user ID is the same. */
-static void all_given(void)
+/* An image that gives every word. In the reading either no bit of a program word or user ID is the same, so that each row rises and the user
+   IDs do, or all bits are 1, so that nothing does. */
+static void all_given(int rises)
 {
     for (size_t i = 0; i < COUNT; i++) {
         image[i] = i >= P + 4 && i < P + 7 ? 0xffff : value(i);
-        reading[i] = (uint16_t)(value(i) ^ 0x3fff);
+        reading[i] = rises ? (uint16_t)(value(i) ^ 0x3fff) : 0x3fff;
     }
     reading[P + 6] = 0x2a01;
     reading[P + 7] = reading[P + 8] = 0x3fff;
     image[P + 7] = 0x1580, image[P + 8] = 0x0580;
 }
 
-static void update_all(void)
+static void update_all(int rises)
 {
+    const size_t in_all = rises ? 73750 : 73750 - 4096 - 1; /* a Row Erase for each row, and one for the user IDs */
     size_t steps, done, words_read;
-    all_given();
-    holds(tickmallet_update(&short_rows, image, COUNT, reading, COUNT, stream, sizeof stream, &steps) == 0 && steps == 73750,
-          "an update of every word of the largest device has 73750 steps");
+    all_given(rises);
+    holds(tickmallet_update(&short_rows, image, COUNT, reading, COUNT, stream, sizeof stream, &steps) == 0 && steps == in_all,
+          "an update of every word of the largest device has 73750 steps, or 69653 if nothing rises");
     memcpy(cells, reading, sizeof reading);
     cells[COUNT] = cells[COUNT + 1] = 0x3fff;
-    holds(tickmallet_run(&short_rows, cells, COUNT + 2, stream, 3 * steps, steps, found, 0, &done, &words_read) == 0 && done == 73750, "it runs");
+    holds(tickmallet_run(&short_rows, cells, COUNT + 2, stream, 3 * steps, steps, found, 0, &done, &words_read) == 0 && done == in_all, "it runs");
     image[P + 4] = reading[P + 4], image[P + 5] = reading[P + 5], image[P + 6] = 0x2a01;
     image[P + 8] |= 0x000c; /* spare bits, which stay */
     holds(!memcmp(cells, image, sizeof image), "and every word is the image's");
@@ -152,7 +154,7 @@ static void read_all(const uint8_t *from, size_t length, const char *what)
 static void sheet_of_all(void)
 {
     size_t length;
-    all_given();
+    all_given(1);
     holds(tickmallet_write_sheet(&big, reading, COUNT, text, sizeof text, &length) == 0 && length == OLD,
           "a sheet of the largest device has 184375 bytes");
     holds(!memcmp(text + OLD - 50 - 45 - 1, "\n7FF8\t", 6) && !memcmp(text + OLD - 50 - 1, "\n8000\t", 6), "its last lines are 7FF8 and 8000");
@@ -215,7 +217,8 @@ void agree_largest(void)
     read_lines(131073, 0);
     read_lines(MOST_TEXT, 0);
     read_lines(MOST_TEXT + 1, 1);
-    update_all();
+    update_all(1);
+    update_all(0);
     sheet_of_all();
     move_all();
     judge_all();

@@ -72,7 +72,7 @@ static void take_board(unsigned program, int is_new)
     table_len = (size_t)snprintf((char *)table, sizeof table, "ABCDEFGHIJKLMNOP\t2A01\t%u\t8\t3EFF\t3FF3\t3FFF\n", program);
     for (size_t i = 0; i < count; i++) {
         image[i] = i >= program + 4u && i < program + 7u ? 0xffff : 0x1580;
-        reading[i] = cells[i] = 0x3fff;
+        reading[i] = cells[i] = i < program && i & 8 ? 0x0a7f : 0x3fff; /* every other row rises */
     }
     reading[program + 6] = cells[program + 6] = 0x2a01;
     cells[count] = cells[count + 1] = 0x3fff;

@@ -7,7 +7,7 @@ struct plan {
     const tickmallet_device *device;
     const uint16_t *image, *reading; /* no reading: every word is erased */
     size_t words, row;
-    int erase, all_ids;
+    int all_ids, erase_ids;
 };
 
 static uint16_t known(const struct plan *p, size_t i)
@@ -32,10 +32,27 @@ static uint16_t wanted_past(const struct plan *p, size_t k)
     return (wanted(p, p->words + k) & ~spare) | (known(p, p->words + k) & spare);
 }
 
-static int row_differs(const struct plan *p, size_t first)
+/* A bit is 1 that was 0, for which a word has to be erased. Of an erased word none is. */
+static int rises(const struct plan *p, size_t i)
 {
-    for (size_t i = first; i < first + p->row; i++)
+    return (wanted(p, i) & ~known(p, i)) != 0;
+}
+
+/* Of so many words, a row or the user IDs. */
+static int one_differs(const struct plan *p, size_t first, size_t count)
+{
+    for (size_t i = first; i < first + count; i++)
         if (differs(p, i))
+            return 1;
+    return 0;
+}
+
+static int one_rises(const struct plan *p, size_t first, size_t count)
+{
+    if (!p->reading)
+        return 0;
+    for (size_t i = first; i < first + count; i++)
+        if (rises(p, i))
             return 1;
     return 0;
 }
@@ -54,8 +71,8 @@ static size_t body_length(const struct plan *p)
     size_t steps = 0, counter = 0, place = 0;
     int any = 0;
     for (size_t first = 0; first < p->words; first += p->row)
-        if (row_differs(p, first)) {
-            steps += (first - counter) + (p->erase ? 1 : 0) + (2 * p->row - 1) + 1;
+        if (one_differs(p, first, p->row)) {
+            steps += (first - counter) + (one_rises(p, first, p->row) ? 1 : 0) + (2 * p->row - 1) + 1;
             counter = first + p->row - 1;
         }
     for (size_t k = 0; k < 9; k++)
@@ -64,7 +81,7 @@ static size_t body_length(const struct plan *p)
             steps += (k - place) + 2;
             place = k;
         }
-    return steps + (any ? 1 : 0) + (any && p->all_ids ? 1 : 0);
+    return steps + (any ? 1 : 0) + (p->erase_ids ? 1 : 0);
 }
 
 static uint8_t *put(uint8_t *to, unsigned code, unsigned payload)
@@ -80,11 +97,11 @@ static uint8_t *put_body(uint8_t *to, const struct plan *p)
     size_t counter = 0, place = 0;
     int any = 0;
     for (size_t first = 0; first < p->words; first += p->row) {
-        if (!row_differs(p, first))
+        if (!one_differs(p, first, p->row))
             continue;
         for (; counter < first; counter++)
             to = put(to, INCREMENT, 0);
-        if (p->erase)
+        if (one_rises(p, first, p->row))
             to = put(to, ROW_ERASE, 0);
         for (size_t i = 0; i < p->row; i++) {
             if (i)
@@ -99,7 +116,7 @@ static uint8_t *put_body(uint8_t *to, const struct plan *p)
             continue;
         if (!any) {
             to = put(to, LOAD_CONFIGURATION, 2 * ERASED);
-            if (p->all_ids)
+            if (p->erase_ids)
                 to = put(to, ROW_ERASE, 0);
             any = 1;
         }
@@ -126,12 +143,12 @@ uint8_t plain_update(const tickmallet_device *device, const uint16_t *image, siz
         return 22;
     if (!(reading[words + 7] & CP))
         return 23;
-    struct plan p = {device, image, reading, words, device->row, 1, 0};
+    struct plan p = {device, image, reading, words, device->row, 0, 0};
     for (size_t k = 7; k < 9; k++)
         if (wanted_past(&p, k) & ~reading[words + k])
             return 24;
-    for (size_t k = 0; k < 4; k++)
-        p.all_ids |= differs(&p, words + k);
+    p.all_ids = one_differs(&p, words, 4);
+    p.erase_ids = one_rises(&p, words, 4);
     size_t need = 1 + body_length(&p);
     if (out_count < 3 * need)
         return 26;

@@ -22,8 +22,8 @@ enum {
 
 static const tickmallet_device device = {0x3023, P, 32, 0x3eff, 0x3ff3, 0x3fff};
 
-/* inputs */
-static uint16_t full[COUNT], board[CELLS], other[COUNT];
+/* inputs; from `board` to the image `full` every row rises, and the user IDs do, and from `above` to it nothing does */
+static uint16_t full[COUNT], board[CELLS], above[COUNT], other[COUNT];
 static uint8_t hex[TEXT], long_hex[65536], planned[STREAM], reads[STREAM];
 static size_t hex_count, planned_count, reads_count;
 
@@ -54,9 +54,19 @@ static void write_hex(int side)
     out[side].number = (side == PLAIN ? plain_write_hex : tickmallet_write_hex)(&device, full, COUNT, out[side].text, TEXT, &out[side].a);
 }
 
-static void update(int side)
+static void update(int side, const uint16_t *reading)
 {
-    out[side].number = (side == PLAIN ? plain_update : tickmallet_update)(&device, full, COUNT, board, COUNT, out[side].stream, STREAM, &out[side].a);
+    out[side].number = (side == PLAIN ? plain_update : tickmallet_update)(&device, full, COUNT, reading, COUNT, out[side].stream, STREAM, &out[side].a);
+}
+
+static void update_rising(int side)
+{
+    update(side, board);
+}
+
+static void update_falling(int side)
+{
+    update(side, above);
 }
 
 static void fresh(int side)
@@ -95,7 +105,8 @@ static const struct {
     {"read HEX, 8192 words", read_hex},
     {"read HEX, 65536 bytes", read_long_hex},
     {"write HEX, 8192 words", write_hex},
-    {"plan update, every row", update},
+    {"plan update, every row rises", update_rising},
+    {"plan update, no row rises", update_falling},
     {"plan fresh, every row", fresh},
     {"run the update", run_update},
     {"run a read-back", run_read_back},
@@ -145,13 +156,20 @@ static int make_inputs(void)
     memcpy(other, board, sizeof other);
     for (unsigned i = 0; i < 40; i++)
         other[100 + 200 * i] ^= 1;
+    memcpy(above, board, sizeof above);
+    for (unsigned i = 0; i < P + 4; i++)
+        above[i] = full[i] | word();
     make_long_hex();
-    size_t steps;
+    size_t steps, fewer;
     if (tickmallet_write_hex(&device, full, COUNT, hex, TEXT, &hex_count))
         return 0;
     if (tickmallet_update(&device, full, COUNT, board, COUNT, planned, STREAM, &steps))
         return 0;
     planned_count = 3 * steps;
+    if (tickmallet_update(&device, full, COUNT, above, COUNT, reads, STREAM, &fewer))
+        return 0;
+    if (steps != TICKMALLET_MOST_STEPS(P, 32) || fewer != steps - P / 32 - 1) /* a Row Erase for each row, and one for the user IDs */
+        return 0;
     if (tickmallet_read_back(&device, reads, STREAM, &steps))
         return 0;
     reads_count = 3 * steps;
@@ -184,7 +202,7 @@ static unsigned decimal(const char *text)
 int main(int argc, char **argv)
 {
     if (!make_inputs()) {
-        printf("the inputs are refused\n");
+        printf("the inputs are refused, or have other steps than they should\n");
         return 1;
     }
     unsigned job = argc > 2 ? decimal(argv[2]) : 0;
@@ -200,7 +218,7 @@ int main(int argc, char **argv)
     }
     unsigned repetitions = argc > 1 ? decimal(argv[1]) : 99, bad = 0;
     int times_too = argc < 3 || strcmp(argv[2], "ratios");
-    printf(times_too ? "%-24s %7s %12s %12s\n" : "%-24s %7s\n", "job", "ratio", "proved, us", "plain C, us");
+    printf(times_too ? "%-28s %7s %12s %12s\n" : "%-28s %7s\n", "job", "ratio", "proved, us", "plain C, us");
     for (unsigned j = 0; j < JOBS; j++) {
         memset(out, 0, sizeof out);
         double best[2] = {1e18, 1e18};
@@ -212,9 +230,9 @@ int main(int argc, char **argv)
                     best[side] = t;
             }
         if (times_too)
-            printf("%-24s %7.2f %12.2f %12.2f\n", jobs[j].name, best[PROVED] / best[PLAIN], best[PROVED], best[PLAIN]);
+            printf("%-28s %7.2f %12.2f %12.2f\n", jobs[j].name, best[PROVED] / best[PLAIN], best[PROVED], best[PLAIN]);
         else
-            printf("%-24s %7.2f\n", jobs[j].name, best[PROVED] / best[PLAIN]);
+            printf("%-28s %7.2f\n", jobs[j].name, best[PROVED] / best[PLAIN]);
         fflush(stdout);
         jobs[j].once(PROVED);
         jobs[j].once(PLAIN);

@@ -1,4 +1,6 @@
-// Requests on wanted words and the three streams.
+// Requests on what a board is to hold and on the three streams.
+mod aims;
+
 use ask::fields;
 use ask::fields::NOWHERE;
 use ask::name;
@@ -6,7 +8,7 @@ use ask::name::UNKNOWN;
 use ask::put;
 use plan::Planned;
 
-// The end of the answer to a request of the crate plan.
+// The end of the answer to a request of the crates aim and plan.
 pub fn answer(
     name: &[u8],
     line: &[u8],
@@ -16,11 +18,21 @@ pub fn answer(
     v: &mut [u16],
     out: &mut [u8],
 ) -> usize {
-    match name::place(b"plan.update plan.fresh plan.read_back plan.wanted", name) {
+    match name::place(
+        b"plan.update plan.fresh plan.read_back plan.wanted plan.row_differs plan.row_rises plan.id_differs plan.id_rises plan.is_written plan.update_refusal plan.fresh_refusal",
+        name,
+    ) {
         0 => update(line, at, a, w, v, out),
         1 => fresh(line, at, a, w, out),
         2 => read_back(line, at, a, out),
-        3 => wanted(line, at, w, v, out),
+        3 => aims::wanted(line, at, w, v, out),
+        4 => aims::row_differs(line, at, w, v, out),
+        5 => aims::row_rises(line, at, w, v, out),
+        6 => aims::id_differs(line, at, w, v, out),
+        7 => aims::id_rises(line, at, w, v, out),
+        8 => aims::is_written(line, at, w, v, out),
+        9 => aims::update_refusal(line, at, w, v, out),
+        10 => aims::fresh_refusal(line, at, w, out),
         _ => UNKNOWN,
     }
 }
@@ -73,20 +85,6 @@ fn read_back(line: &[u8], at: usize, a: &mut [u8], out: &mut [u8]) -> usize {
     let part = &mut a[..k];
     let p = plan::read_back(d.device, part);
     put_planned(out, at, p, part)
-}
-
-fn wanted(line: &[u8], at: usize, w: &mut [u16], v: &mut [u16], out: &mut [u8]) -> usize {
-    let d = fields::device(line, at);
-    let image = fields::words(line, d.at, w);
-    let reading = fields::words(line, image.at, v);
-    let i = fields::number(line, reading.at);
-    if i.at != line.len() {
-        return NOWHERE;
-    }
-    let n = image.count;
-    let m = reading.count;
-    let word = plan::wanted(d.device, &w[..n], &v[..m], i.value as usize);
-    put::number(out, at, word as u64)
 }
 
 // The number, the steps and the whole buffer.

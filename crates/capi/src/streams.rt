@@ -1,7 +1,8 @@
 // The three streams.
 use crate::record::device_at;
 ghost use Rattle.plan.specs.Steps.{updateSteps, freshSteps, readBackSteps};
-ghost use Rattle.plan.specs.Answers.{updateNumber, freshNumber, readBackNumber, Plans};
+ghost use Rattle.aim.specs.Refusal.{updateNumber, freshNumber};
+ghost use Rattle.plan.specs.Answers.{readBackNumber, Plans};
 ghost use Rattle.capi.specs.Crossing.{deviceAt, planAnswer};
 
 // The stream of an update.

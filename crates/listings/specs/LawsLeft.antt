@@ -19,11 +19,11 @@ use Rattle.device.specs.declared.Device.{Device}
 use Rattle.device.specs.Memory.{readingTail, programmable, imageOk, readingOk}
 use Rattle.device.specs.LawsMemory.{reading-long, reading-each}
 use Rattle.sheet.specs.Sheet.{sheetWith}
-use Rattle.plan.specs.Wanted.{wanted}
-use Rattle.plan.specs.Answers.{updateNumber, freshNumber}
+use Rattle.aim.specs.Wanted.{wanted}
+use Rattle.aim.specs.Refusal.{updateNumber, freshNumber}
 use Rattle.plan.specs.Demands.{programmed}
-use Rattle.plan.specs.LawsAccepted.{accepted, accepted-fresh}
-use Rattle.plan.specs.LawsPlanWanted.{update-source, fresh-source}
+use Rattle.aim.specs.LawsAccepted.{accepted, accepted-fresh}
+use Rattle.plan.specs.LawsPlanSource.{update-source, fresh-source}
 use Rattle.print.specs.Print.{refusedText}
 use Rattle.listings.specs.Wanteds.{leftText}
 use Rattle.listings.specs.LawsPlans.{planNumber, knownTo}

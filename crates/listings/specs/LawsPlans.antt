@@ -23,7 +23,8 @@ use Rattle.target.specs.declared.Order.{Order}
 use Rattle.target.specs.Stream.{bytesOf}
 use Rattle.plan.specs.declared.Planned.{Planned}
 use Rattle.plan.specs.Steps.{updateSteps, freshSteps}
-use Rattle.plan.specs.Answers.{updateNumber, freshNumber, Plans}
+use Rattle.aim.specs.Refusal.{updateNumber, freshNumber}
+use Rattle.plan.specs.Answers.{Plans}
 use Rattle.plan.specs.Demands.{programmed}
 use Rattle.plan.specs.LawsPlanBounds.{update-bound, fresh-bound}
 use Rattle.sheet.specs.declared.Line1.{Line1}

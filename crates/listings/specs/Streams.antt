@@ -10,7 +10,7 @@ use Rattle.numerals.specs.Hex.{byteText}
 use Rattle.target.specs.Stream.{bytesOf}
 use Rattle.hexread.specs.Reader.{Outcome, blankImage, refusedAt, textRead}
 use Rattle.plan.specs.Steps.{updateSteps, freshSteps, readBackSteps}
-use Rattle.plan.specs.Answers.{updateNumber, freshNumber}
+use Rattle.aim.specs.Refusal.{updateNumber, freshNumber}
 use Rattle.print.specs.Print.{refusedText}
 use Rattle.board.specs.Open.{recordOf, openNumber, boardNumber, boardReading}
 

@@ -8,7 +8,7 @@ use Rattle.device.specs.declared.Device.{Device}
 use Rattle.device.specs.Memory.{deviceId}
 use Rattle.sheet.specs.FirstLine.{firstLine}
 use Rattle.sheet.specs.Sheet.{sheetWith}
-use Rattle.plan.specs.Answers.{updateNumber, freshNumber}
+use Rattle.aim.specs.Refusal.{updateNumber, freshNumber}
 use Rattle.plan.specs.Demands.{programmed}
 use Rattle.print.specs.Print.{refusedText}
 use Rattle.board.specs.Open.{recordOf, boardNumber, boardReading}

@@ -61,9 +61,9 @@ fn left_word(d: Device, image: &[u16], reading: &[u16], fresh: bool, i: usize) -
         return reading[i];
     }
     if fresh {
-        return plan::wanted(d, image, &reading[..0], i);
+        return aim::wanted(d, image, &reading[..0], i);
     }
-    plan::wanted(d, image, reading, i)
+    aim::wanted(d, image, reading, i)
 }
 
 // The sheet of a reading with this ID on line 1.

@@ -1,14 +1,10 @@
--- For each public call: two results that its promise allows are equal, the answer and the later content of the buffer where one is lent.
+-- For each public call: two results that its promise allows are equal, the answer and the later content of the buffer.
 use mathlib.Core.Path.{_≡_}
 use denote.Ref.{now}
 use Rattle.words.specs.LawsPromise.{determined}
-use Rattle.plan.proofs.source.wanted.Reads as wanted
 use Rattle.plan.proofs.planner.update.Reads as update
 use Rattle.plan.proofs.planner.fresh.Reads as fresh
 use Rattle.plan.proofs.planner.read_back.Reads as read-back
-
-pub wanted-determined : (κs : _) (a : _) (r s : _) (x y : _) → wanted.Post κs a r x → wanted.Post κs a s y → r ≡ s
-wanted-determined κs a r s x y p q = determined p q
 
 -- the buffer is the fourth parameter
 pub update-determined : (κs : _) (a : _) (r s : _) (x y : _) → update.Post κs a r x → update.Post κs a s y → (r ≡ s) × (now (x .1 .1 .1 .0) ≡ now (y .1 .1 .1 .0))

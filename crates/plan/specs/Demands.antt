@@ -8,7 +8,7 @@ use Rattle.words.specs.Choice.{pick}
 use Rattle.words.specs.Lists.{build}
 use Rattle.device.specs.declared.Device.{Device}
 use Rattle.device.specs.Memory.{readingTail, programmable, protected}
-use Rattle.plan.specs.Wanted.{wanted}
+use Rattle.aim.specs.Wanted.{wanted}
 
 -- the cells that a stream is to leave: what can be programmed is as wanted, every other word is the first cells'
 unfoldable pub programmed : Device → (image reading first : List ℕ) → List ℕ

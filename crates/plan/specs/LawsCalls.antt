@@ -18,7 +18,8 @@ use Rattle.target.specs.Stream.{bytesOf}
 use Rattle.target.specs.LawsStream.{length-bytes}
 use Rattle.target.specs.declared.Order.{Order}
 use Rattle.plan.specs.Steps.{updateSteps, freshSteps}
-use Rattle.plan.specs.Answers.{updateNumber, freshNumber, planned, Plans}
+use Rattle.aim.specs.Refusal.{updateNumber, freshNumber}
+use Rattle.plan.specs.Answers.{planned, Plans}
 use Rattle.plan.specs.Demands.{programmed}
 use Rattle.plan.specs.LawsDemands.{plan-bytes}
 use Rattle.plan.specs.LawsUpdate.{update-recovers}

@@ -20,10 +20,10 @@ use Rattle.device.specs.LawsMemory.{programmable-low}
 use Rattle.target.specs.Stream.{bytesOf}
 use Rattle.target.specs.LawsStream.{length-bytes}
 use Rattle.target.specs.declared.Order.{Order}
-use Rattle.plan.specs.Wanted.{known, wanted}
+use Rattle.aim.specs.Wanted.{known, wanted}
 use Rattle.plan.specs.Answers.{planned, plannedOut}
 use Rattle.plan.specs.Demands.{programmed}
-use Rattle.plan.specs.LawsWanted.{wanted-silent, wanted-given, wanted-whole, wanted-spare}
+use Rattle.aim.specs.LawsWanted.{wanted-silent, wanted-given, wanted-whole, wanted-spare}
 
 -- ---- the programmed cells, word by word
 

@@ -9,7 +9,7 @@ use Rattle.target.specs.Chip.{Chip}
 use Rattle.target.specs.LawsStream.{FitsAll, fits-append}
 use Rattle.target.specs.declared.Order.{Order}
 use Rattle.target.specs.declared.Order.the-variants.{LoadData, Increment, Begin}
-use Rattle.plan.specs.Wanted.{some}
+use Rattle.aim.specs.Wanted.{some}
 use Rattle.plan.specs.Steps.{Task, walk, loads, setSteps, erasing, rowSteps, rowsFrom, wordSteps, writesFrom, configSteps, bodyOf}
 
 fits-increments : (n : ℕ) → FitsAll (replicate n Increment)

@@ -31,13 +31,13 @@ use Rattle.target.specs.LawsTorn.{torn-miss, torn-fits, torn-edit}
 use Rattle.target.specs.LawsBlocks.{bulk-config, bulk-within}
 use Rattle.target.specs.declared.Order.{Order}
 use Rattle.target.specs.declared.Order.the-variants.{LoadConfiguration, ResetAddress, BulkErase}
-use Rattle.plan.specs.Wanted.{known, wanted}
+use Rattle.aim.specs.Wanted.{known, wanted}
 use Rattle.plan.specs.Steps.{Task, taskOf, bodyOf, freshTask, freshSteps}
-use Rattle.plan.specs.Answers.{freshNumber}
+use Rattle.aim.specs.Refusal.{freshNumber}
 use Rattle.plan.specs.Demands.{programmed}
-use Rattle.plan.specs.LawsWanted.{known-fits, wanted-fits, wanted-reached, writes-only}
+use Rattle.aim.specs.LawsWanted.{known-fits, wanted-fits, wanted-reached, writes-only}
 use Rattle.plan.specs.LawsDemands.{nothing-known}
-use Rattle.plan.specs.LawsAccepted.{AcceptedFresh, accepted-fresh}
+use Rattle.aim.specs.LawsAccepted.{AcceptedFresh, accepted-fresh}
 use Rattle.plan.specs.LawsFits.{fits-body}
 use Rattle.plan.specs.LawsSafe.{SoundTask, Kept, spoken, wiped, wiped-program, wiped-past, sound-cells}
 use Rattle.plan.specs.LawsSafeSteps.{At, Free, Any, free-at, enters, safe-reset, safe-configuration}

@@ -17,11 +17,11 @@ use Rattle.target.specs.Chip.{Chip, chipOf}
 use Rattle.target.specs.LawsChip.{SoundChip, sound-chip}
 use Rattle.target.specs.declared.Order.{Order}
 use Rattle.target.specs.declared.Order.the-variants.{LoadConfiguration, LoadData, Increment, Begin}
-use Rattle.plan.specs.Wanted.{known, wanted, some, rowDiffers, idDiffers, configWrites}
+use Rattle.aim.specs.Wanted.{known, wanted, some, rowDiffers, rowRises, idDiffers, idRises, configWrites}
 use Rattle.plan.specs.Steps.{walk, loads, setSteps, erasing, rowSteps, rowsFrom, wordSteps, writesFrom, configSteps, bodyOf, taskOf, updateSteps, freshSteps, reads, readSteps, readBackSteps}
 use Rattle.plan.specs.LawsPlanSteps.{rows-open, row-after, writes-open, config-yes, config-no, body-opens, update-opens, fresh-opens}
 use Rattle.device.specs.LawsMemory.{config-below}
-use Rattle.plan.specs.LawsPlanWanted.{never-written}
+use Rattle.aim.specs.LawsAim.{never-written}
 
 -- ---- segments
 
@@ -43,10 +43,6 @@ length-erasing : (b : Bool) → length (erasing b) ≤ 1
 unfolding erasing
 length-erasing true = omega arith
 length-erasing false = omega arith
-
-one-erasing : length (erasing true) ≡ 1
-unfolding erasing
-one-erasing = refl
 
 no-erasing : length (erasing false) ≡ 0
 unfolding erasing
@@ -286,13 +282,6 @@ module _ (d : Device) (r : Rules d) where
   pub few-rows : rows ≤ mostWords
   few-rows = let v : rows * 1 ≤ rows * d .row = mul-le-mul-left rows some-row in omega (arith, few-words)
 
-  pub rows-within : rows * d .row ≤ d .words
-  rows-within = let w : rows * d .row ≡ d .words = sound .whole in omega arith
-
-  -- what reaches to the last configuration word reaches past the rows
-  pub reach-rows : (n : ℕ) → d .words + readingTail ≤ n → rows * d .row ≤ n
-  reach-rows n h = let w : rows * d .row ≡ d .words = sound .whole in omega arith
-
   -- n rows of R words at a cost of 2R + c each
   spread : (c : ℕ) → rows * (2 * d .row + c) ≡ 2 * d .words + rows * c
   spread c =
@@ -300,10 +289,10 @@ module _ (d : Device) (r : Rules d) where
       let m : rows * (2 * d .row) ≡ 2 * (rows * d .row) = mul-left-comm rows 2 (d .row) in
       mul-add rows (2 * d .row) c ∙ (omega arith)
 
-  pub rows-few : (erase : Bool) (word : ℕ → ℕ) (chosen : ℕ → Bool) → length (rowsFrom (chipOf d) (λ k. erase) word chosen rows 0 0) ≤ 4 * mostWords
+  pub rows-few : (erase : ℕ → Bool) (word : ℕ → ℕ) (chosen : ℕ → Bool) → length (rowsFrom (chipOf d) erase word chosen rows 0 0) ≤ 4 * mostWords
   rows-few erase word chosen =
-      let b = rows-cost (chipOf d) sound (λ k. erase) word chosen 1 (λ k. length-erasing erase) rows some-rows in
-      let c : length (rowsFrom (chipOf d) (λ k. erase) word chosen rows 0 0) + 1 ≤ 2 * d .words + rows * 2 = rw (spread 2) at b in
+      let b = rows-cost (chipOf d) sound erase word chosen 1 (λ k. length-erasing (erase k)) rows some-rows in
+      let c : length (rowsFrom (chipOf d) erase word chosen rows 0 0) + 1 ≤ 2 * d .words + rows * 2 = rw (spread 2) at b in
       let w : rows * d .row ≡ d .words = sound .whole in
       let v : rows * 1 ≤ rows * d .row = mul-le-mul-left rows some-row in
       let m : d .words ≤ mostWords = r .most in
@@ -323,27 +312,28 @@ module _ (d : Device) (r : Rules d) where
       none k p q = pick-false {A = ℕ} (chosen k) 1 0 (sym (never-written (chipOf d) word old all k p (config-below k q)))
 
   -- 2P + 2P/R, in rows
-  body-most : (word old : ℕ → ℕ) (erase eraseIds allIds : Bool)
-      → length (bodyOf (chipOf d) (taskOf (chipOf d) word old (λ k. erase) eraseIds allIds)) + 1
-      ≤ 2 * d .words + rows * (1 + length (erasing erase)) + (21 + length (erasing eraseIds))
-  body-most word old erase eraseIds allIds =
-      let b : length (bodyOf (chipOf d) (taskOf (chipOf d) word old (λ k. erase) eraseIds allIds)) + 1
-      ≤ rows * (2 * d .row + (1 + length (erasing erase))) + (9 + 2 * tally (configWrites (chipOf d) word old allIds) 9 0 + length (erasing eraseIds))
-      = body-cost (chipOf d) sound word old (λ k. erase) eraseIds allIds (length (erasing erase)) (λ k. omega arith) some-rows in
-      let s : rows * (2 * d .row + (1 + length (erasing erase))) ≡ 2 * d .words + rows * (1 + length (erasing erase)) = spread (1 + length (erasing erase)) in
+  body-most : (word old : ℕ → ℕ) (erase : ℕ → Bool) (eraseIds allIds : Bool) (erases : ℕ) → ((k : ℕ) → length (erasing (erase k)) ≤ erases)
+      → length (bodyOf (chipOf d) (taskOf (chipOf d) word old erase eraseIds allIds)) + 1 ≤ 2 * d .words + rows * (1 + erases) + (21 + length (erasing eraseIds))
+  body-most word old erase eraseIds allIds erases most =
+      let b : length (bodyOf (chipOf d) (taskOf (chipOf d) word old erase eraseIds allIds)) + 1
+      ≤ rows * (2 * d .row + (1 + erases)) + (9 + 2 * tally (configWrites (chipOf d) word old allIds) 9 0 + length (erasing eraseIds))
+      = body-cost (chipOf d) sound word old erase eraseIds allIds erases most some-rows in
+      let s : rows * (2 * d .row + (1 + erases)) ≡ 2 * d .words + rows * (1 + erases) = spread (1 + erases) in
       let t : tally (configWrites (chipOf d) word old allIds) 9 0 ≤ 6 = tally-six word old allIds in
       omega arith
 
   update-most : (image reading : List ℕ) → length (updateSteps d image reading) ≤ 2 * d .words + 2 * rows + 22
   update-most image reading =
+      let rise : Bool = idRises (chipOf d) (wanted d image reading) (known reading) in
       let ids : Bool = idDiffers (chipOf d) (wanted d image reading) (known reading) in
-      let b = body-most (wanted d image reading) (known reading) true ids ids in
-      let e : length (erasing ids) ≤ 1 = length-erasing ids in
-      rw (update-opens d image reading ids refl) (omega (arith, rw one-erasing at b))
+      let erase : ℕ → Bool = rowRises (chipOf d) (wanted d image reading) (known reading) in
+      let b = body-most (wanted d image reading) (known reading) erase rise ids 1 (λ k. length-erasing (erase k)) in
+      let e : length (erasing rise) ≤ 1 = length-erasing rise in
+      rw (update-opens d image reading rise ids refl refl) (omega arith)
 
   fresh-most : (image : List ℕ) → length (freshSteps d image) ≤ 2 * d .words + 2 * rows + 22
   fresh-most image =
-      let b = body-most (wanted d image []) (known []) false false false in
+      let b = body-most (wanted d image []) (known []) (λ k. false) false false 0 (λ k. rw no-erasing (omega arith)) in
       rw (fresh-opens d image) (omega (arith, some-rows, rw no-erasing at b))
 
   pub read-back-count : length (readBackSteps d) ≡ 2 * d .words + 18

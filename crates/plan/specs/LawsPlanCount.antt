@@ -13,9 +13,9 @@ use Rattle.target.specs.Chip.{Chip, chipOf}
 use Rattle.target.specs.LawsChip.{SoundChip}
 use Rattle.target.specs.declared.Order.{Order}
 use Rattle.target.specs.declared.Order.the-variants.{LoadConfiguration, ResetAddress, BulkErase}
-use Rattle.plan.specs.Wanted.{known, wanted, some, idDiffers}
-use Rattle.plan.specs.Steps.{erasing, rowSteps, rowsFrom, wordSteps, writesFrom, configSteps, taskOf, bodyOf, updateSteps, freshSteps, readBackSteps}
-use Rattle.plan.specs.LawsPlanSteps.{erasing-yes, erasing-no, rows-yes, writes-yes, config-yes, config-no, update-opens, fresh-opens}
+use Rattle.aim.specs.Wanted.{known, wanted, some, idDiffers, idRises}
+use Rattle.plan.specs.Steps.{erasing, rowSteps, rowsFrom, wordSteps, writesFrom, configSteps, updateSteps, freshSteps, readBackSteps}
+use Rattle.plan.specs.LawsPlanSteps.{planBody, erasing-yes, erasing-no, rows-yes, writes-yes, config-yes, config-no, update-opens, fresh-opens}
 use Rattle.plan.specs.LawsPlanBounds.{length-row, length-word, read-back-count}
 
 -- the promise of every count, with a bound that keeps sums of counts small
@@ -81,6 +81,9 @@ erase-counted b e = counts-same 1 _ _ 1 (sym (erasing-yes b e)) (record { is = r
 pub no-erase-counted : (b : Bool) → b ≡ false → Counts 1 (erasing b) 0
 no-erase-counted b e = counts-same 1 _ _ 0 (sym (erasing-no b e)) (record { is = refl; few = omega arith })
 
+pub erase-is : (a b : Bool) (r : ℕ) → a ≡ b → Counts 1 (erasing a) r → Counts 1 (erasing b) r
+erase-is a b r e c = counts-same 1 (erasing a) (erasing b) r (ap erasing e) c
+
 -- one turn of each loop: a row or a word that is written
 module _ (most : ℕ) (all : List Order) where
   pub row-counted : (chip : Chip) (erase : ℕ → Bool) (word : ℕ → ℕ) (chosen : ℕ → Bool) (n k at r e m : ℕ)
@@ -115,16 +118,15 @@ module _ (chip : Chip) (erase : Bool) (word : ℕ → ℕ) (chosen : ℕ → Boo
 
 -- ---- the streams
 
-pub update-counted : (d : Device) (image reading : List ℕ) (ids : Bool) (b : ℕ) → ids ≡ idDiffers (chipOf d) (wanted d image reading) (known reading)
-    → Counts bodyMost (bodyOf (chipOf d) (taskOf (chipOf d) (wanted d image reading) (known reading) (λ k. true) ids ids)) b
-    → Counts (1 + bodyMost) (updateSteps d image reading) (1 + b)
-update-counted d image reading ids b e c =
-    counts-same (1 + bodyMost) _ _ (1 + b) (sym (update-opens d image reading ids e))
+pub update-counted : (d : Device) (image reading : List ℕ) (rise ids : Bool) (b : ℕ)
+    → rise ≡ idRises (chipOf d) (wanted d image reading) (known reading)
+    → ids ≡ idDiffers (chipOf d) (wanted d image reading) (known reading)
+    → Counts bodyMost (planBody d image reading true rise ids) b → Counts (1 + bodyMost) (updateSteps d image reading) (1 + b)
+update-counted d image reading rise ids b r e c =
+    counts-same (1 + bodyMost) _ _ (1 + b) (sym (update-opens d image reading rise ids r e))
     (counts-then 1 bodyMost (ResetAddress ∷ []) _ 1 b (record { is = refl; few = omega arith }) c)
 
-pub fresh-counted : (d : Device) (image : List ℕ) (b : ℕ)
-    → Counts bodyMost (bodyOf (chipOf d) (taskOf (chipOf d) (wanted d image []) (known []) (λ k. false) false false)) b
-    → Counts (3 + bodyMost) (freshSteps d image) (3 + b)
+pub fresh-counted : (d : Device) (image : List ℕ) (b : ℕ) → Counts bodyMost (planBody d image [] false false false) b → Counts (3 + bodyMost) (freshSteps d image) (3 + b)
 fresh-counted d image b c =
     counts-same (3 + bodyMost) _ _ (3 + b) (sym (fresh-opens d image))
     (counts-then 3 bodyMost (LoadConfiguration erased ∷ BulkErase ∷ ResetAddress ∷ []) _ 3 b (record { is = refl; few = omega arith }) c)

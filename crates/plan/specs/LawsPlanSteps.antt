@@ -3,7 +3,7 @@ use Prim.Native.Nat.{ℕ, suc, _+_, _-_, _*_, _/_, _≤_, _<_}
 use native.Mathlib.Nat.{suc-mul, add-mul, mul-le-mul-right}
 use native.Mathlib.Omega.{arith}
 use mathlib.Core.Path.{_≡_, refl, sym, ap, _∙_}
-use mathlib.Core.Bool.{Bool, true, false}
+use mathlib.Core.Bool.{Bool, true, false, _&&_}
 use mathlib.Core.List.{List, [], _∷_, _++_}
 use lib.ListN.{replicate}
 use Rattle.words.specs.Choice.{pick}
@@ -11,8 +11,9 @@ use Rattle.words.specs.Word.{erased}
 use Rattle.words.specs.LawsChoice.{pick-true, pick-false}
 use Rattle.device.specs.declared.Device.{Device}
 use Rattle.target.specs.Chip.{Chip, chipOf}
+use Rattle.target.specs.declared.Order.{Order}
 use Rattle.target.specs.declared.Order.the-variants.{LoadConfiguration, LoadData, Read, Increment, ResetAddress, Begin, BulkErase, RowErase}
-use Rattle.plan.specs.Wanted.{known, wanted, some, rowDiffers, idDiffers, configWrites}
+use Rattle.aim.specs.Wanted.{known, wanted, some, rowDiffers, rowRises, idDiffers, idRises, configWrites}
 use Rattle.plan.specs.Steps.{walk, loads, setSteps, erasing, rowSteps, rowsFrom, wordSteps, writesFrom, configSteps, taskOf, bodyOf}
 use Rattle.plan.specs.Steps.{updateTask, updateSteps, freshTask, freshSteps, reads, readSteps, readBackSteps}
 
@@ -81,6 +82,9 @@ pub row-opens : (d : Device) (erase : Bool) (word : ℕ → ℕ) (at first : ℕ
     → rowSteps (chipOf d) erase word at first ≡ walk at first ++ (erasing erase ++ (loads word first (d .row) ++ Begin ∷ []))
 unfolding rowSteps setSteps
 row-opens d erase word at first = refl
+
+pub row-same : (chip : Chip) (a b : Bool) (word : ℕ → ℕ) (at first : ℕ) → a ≡ b → rowSteps chip a word at first ≡ rowSteps chip b word at first
+row-same chip a b word at first e = ap (λ x. rowSteps chip x word at first) e
 
 module _ (chip : Chip) (erase : ℕ → Bool) (word : ℕ → ℕ) (chosen : ℕ → Bool) (n k at : ℕ) where
   -- one row more than n
@@ -153,15 +157,31 @@ pub body-opens : (chip : Chip) (word old : ℕ → ℕ) (eraseRow : ℕ → Bool
 unfolding bodyOf taskOf
 body-opens chip word old eraseRow eraseIds allIds = refl
 
-pub update-opens : (d : Device) (image reading : List ℕ) (ids : Bool) → ids ≡ idDiffers (chipOf d) (wanted d image reading) (known reading)
-    → updateSteps d image reading ≡ (ResetAddress ∷ []) ++ bodyOf (chipOf d) (taskOf (chipOf d) (wanted d image reading) (known reading) (λ k. true) ids ids)
+-- an erase that is asked for is made if the row rises
+pub erase-asked : (asked rises r : Bool) → asked ≡ true → r ≡ rises → r ≡ (asked && rises)
+erase-asked asked rises r a e = rw a e
+
+-- the rows that both planners write, n of them from row k on; whether one that rises is erased first is asked for
+abbrev pub planRows : Device → (image reading : List ℕ) → (erases : Bool) → (n k at : ℕ) → List Order
+planRows d image reading erases n k at =
+    rowsFrom (chipOf d) (λ j. erases && rowRises (chipOf d) (wanted d image reading) (known reading) j) (wanted d image reading)
+    (rowDiffers (chipOf d) (wanted d image reading) (known reading)) n k at
+
+-- what both planners write after their first steps
+abbrev pub planBody : Device → (image reading : List ℕ) → (erases eraseIds allIds : Bool) → List Order
+planBody d image reading erases eraseIds allIds =
+    bodyOf (chipOf d)
+    (taskOf (chipOf d) (wanted d image reading) (known reading) (λ j. erases && rowRises (chipOf d) (wanted d image reading) (known reading) j) eraseIds allIds)
+
+pub update-opens : (d : Device) (image reading : List ℕ) (rise ids : Bool)
+    → rise ≡ idRises (chipOf d) (wanted d image reading) (known reading)
+    → ids ≡ idDiffers (chipOf d) (wanted d image reading) (known reading)
+    → updateSteps d image reading ≡ (ResetAddress ∷ []) ++ planBody d image reading true rise ids
 unfolding updateSteps updateTask
-update-opens d image reading ids e = rw e
+update-opens d image reading rise ids r e = rw (r, e)
 
 pub fresh-opens : (d : Device) (image : List ℕ)
-    → freshSteps d image
-    ≡ (LoadConfiguration erased ∷ [])
-    ++ ((BulkErase ∷ []) ++ ((ResetAddress ∷ []) ++ bodyOf (chipOf d) (taskOf (chipOf d) (wanted d image []) (known []) (λ k. false) false false)))
+    → freshSteps d image ≡ (LoadConfiguration erased ∷ []) ++ ((BulkErase ∷ []) ++ ((ResetAddress ∷ []) ++ planBody d image [] false false false))
 unfolding freshSteps freshTask
 fresh-opens d image = refl
 

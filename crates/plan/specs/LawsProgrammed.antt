@@ -28,10 +28,10 @@ use Rattle.target.specs.LawsStream.{length-bytes}
 use Rattle.words.specs.LawsTests.{by-test, by-lt, or-cases, or-right}
 use Rattle.target.specs.LawsBlocks.{bulk-program, bulk-id, bulk-config, bulk-cases, bulk-within}
 use Rattle.target.specs.declared.Order.{Order}
-use Rattle.plan.specs.Wanted.{wanted, rowDiffers, configWrites}
+use Rattle.aim.specs.Wanted.{wanted, rowDiffers, configWrites}
 use Rattle.plan.specs.Steps.{Task, taskOf}
 use Rattle.plan.specs.Demands.{programmed}
-use Rattle.plan.specs.LawsWanted.{row-same, unwritten-same}
+use Rattle.aim.specs.LawsWanted.{row-same, unwritten-same}
 use Rattle.plan.specs.LawsSafe.{SoundTask, spoken, spoken-program, spoken-past}
 use Rattle.plan.specs.LawsSafeBody.{finished}
 

@@ -19,9 +19,9 @@ use Rattle.target.specs.LawsChip.{SoundChip, Burning}
 use Rattle.target.specs.LawsCrash.{safe-one, safe-stay, safe-seq, safe-pick, safe-weaken}
 use Rattle.words.specs.LawsTests.{by-eq}
 use Rattle.target.specs.declared.Order.the-variants.{Begin, RowErase}
-use Rattle.plan.specs.Wanted.{some}
+use Rattle.aim.specs.Wanted.{some}
 use Rattle.plan.specs.Steps.{Task, walk, erasing, wordSteps, writesFrom, configSteps}
-use Rattle.plan.specs.LawsSome.{some-none}
+use Rattle.aim.specs.LawsSome.{some-none}
 use Rattle.plan.specs.LawsSafe.{SoundTask, Kept, spoken, spoken-word, wiped-word, writes-within}
 use Rattle.plan.specs.LawsSafeSteps.{At, Free, Any, length-blank, safe-load, safe-configuration, safe-walk}
 use Rattle.plan.specs.LawsSafeBlocks.{Rows}

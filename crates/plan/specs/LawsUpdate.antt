@@ -6,9 +6,8 @@ use mathlib.Core.Bool.{Bool, true, false, _&&_}
 use mathlib.Core.Logic.{_⊎_, inl, inr, ⊎-elim}
 use mathlib.Core.List.{List, _∷_}
 use lib.Dec.{ltb}
-use lib.Bits.{bitAnd}
 use lib.ListN.{length, getD}
-use borrow.Author.Tests.{lt-ltb, le-ltb, ltb-true, eqb-true}
+use borrow.Author.Tests.{lt-ltb, le-ltb, ltb-true}
 use Rattle.words.specs.Word.{bit}
 use Rattle.words.specs.LawsChoice.{first-holds, second-holds, second-fails, both, true-not-false}
 use Rattle.words.specs.LawsWord.{Contains, words-long, words-each}
@@ -34,12 +33,14 @@ use Rattle.target.specs.LawsBlocks.{bulk-within}
 use Rattle.words.specs.LawsTests.{by-test, by-lt, by-eq, fails}
 use Rattle.target.specs.declared.Order.{Order}
 use Rattle.target.specs.declared.Order.the-variants.{ResetAddress}
-use Rattle.plan.specs.Wanted.{known, wanted, idDiffers, configWrites}
+use Rattle.aim.specs.Wanted.{known, wanted, rowRises, idDiffers, idRises, configWrites}
+use Rattle.aim.specs.LawsRises.{clears-contained, row-contained, id-contained, id-rises-differs}
 use Rattle.plan.specs.Steps.{Task, taskOf, bodyOf, updateTask, updateSteps}
-use Rattle.plan.specs.Answers.{onlyClears, configOk, updateNumber}
+use Rattle.aim.specs.Wanted.{onlyClears}
+use Rattle.aim.specs.Refusal.{configOk, updateNumber}
 use Rattle.plan.specs.Demands.{programmed}
-use Rattle.plan.specs.LawsWanted.{known-inside, known-fits, wanted-fits, wanted-spare, wanted-reached, id-same, writes-only, writes-all}
-use Rattle.plan.specs.LawsAccepted.{Accepted, accepted}
+use Rattle.aim.specs.LawsWanted.{known-inside, known-fits, wanted-fits, wanted-spare, wanted-reached, writes-only, writes-all}
+use Rattle.aim.specs.LawsAccepted.{Accepted, accepted}
 use Rattle.plan.specs.LawsFits.{fits-body}
 use Rattle.plan.specs.LawsSafe.{SoundTask, Kept, spoken, wiped, spoken-past, spoken-within, wiped-program, wiped-past, wiped-word, sound-cells}
 use Rattle.plan.specs.LawsSafeSteps.{Free, free-at, enters, safe-reset}
@@ -176,6 +177,12 @@ module _ (d : Device) (image reading cells : List ℕ) (e : updateNumber d image
   long : length cells ≡ d .words + cellsTail
   long = unfold soundCells in words-long (d .words + cellsTail) cells s
 
+  abbrev row-rises : ℕ → Bool
+  row-rises = rowRises (chipOf d) (wanted d image reading) (known reading)
+
+  abbrev ids-rise : Bool
+  ids-rise = idRises (chipOf d) (wanted d image reading) (known reading)
+
   abbrev ids-differ : Bool
   ids-differ = idDiffers (chipOf d) (wanted d image reading) (known reading)
 
@@ -186,13 +193,14 @@ module _ (d : Device) (image reading cells : List ℕ) (e : updateNumber d image
   clears : (k : ℕ) → isConfig k ≡ true → Contains (known reading (d .words + k)) (wanted d image reading (d .words + k))
   clears k c = subst (λ n. Contains n (wanted d image reading (d .words + k))) (sym (known-is (d .words + k) (let z : k < readingTail = sound-chip d r .config-within k c in omega arith))) read
     where
-      test : (word held : ℕ) → onlyClears word held ≡ true → Contains held word
-      test word held z = unfold onlyClears Contains in eqb-true (bitAnd held word) word z
-
       read : Contains (getD reading (d .words + k) 0) (wanted d image reading (d .words + k))
-      read = test (wanted d image reading (d .words + k)) (getD reading (d .words + k) 0) (config-clears d image reading (a .config) k (config-two k c))
+      read = clears-contained (wanted d image reading (d .words + k)) (getD reading (d .words + k) 0) (config-clears d image reading (a .config) k (config-two k c))
 
-  begins : Updates (chipOf d) (burning d) (wanted d image reading) (known reading) (λ k. true) ids-differ ids-differ cells
+  -- what wants no bit more than the known word has can be written over it
+  over : (i : ℕ) → Contains (known reading i) (wanted d image reading i) → Reaches (maskAt d i) (known reading i) (wanted d image reading i)
+  over i c = wanted-reached d image reading (a .image-sound) i (known-fits reading (reading-each (d .words) reading (a .reading-sound)) i) c
+
+  begins : Updates (chipOf d) (burning d) (wanted d image reading) (known reading) row-rises ids-rise ids-differ cells
   unfolding burning
   begins =
       record {
@@ -201,11 +209,10 @@ module _ (d : Device) (image reading cells : List ℕ) (e : updateNumber d image
         held = λ i h. held i h ∙ sym (known-is i h);
         bare = bare;
         able = λ i h. rw (mask-plain d i (omega arith)) (reaches-any (wanted d image reading i) (fit i));
-        rows-can = λ i h n. absurd (true-not-false {b = true} refl n);
-        ids-can = λ n k h. subst (λ w. burning d .Can (d .words + k) (known reading (d .words + k)) w) (sym (id-same (chipOf d) (wanted d image reading) (known reading) n k h))
-            (burning d .can-same (d .words + k) (known reading (d .words + k)));
-        config-can = λ k c. wanted-reached d image reading (a .image-sound) (d .words + k) (known-fits reading (reading-each (d .words) reading (a .reading-sound)) (d .words + k)) (clears k c);
-        ids-erased = λ y. (refl, y);
+        rows-can = λ i h n. over i (row-contained (chipOf d) (wanted d image reading) (known reading) (sound-chip d r .some-row) i n);
+        ids-can = λ n k h. over (d .words + k) (id-contained (chipOf d) (wanted d image reading) (known reading) n k h);
+        config-can = λ k c. over (d .words + k) (clears k c);
+        ids-erased = λ y. (refl, id-rises-differs (chipOf d) (wanted d image reading) (known reading) y);
       }
     where
       opened : locked (chipOf d) cells ≡ protected (d .words) cells
@@ -214,7 +221,7 @@ module _ (d : Device) (image reading cells : List ℕ) (e : updateNumber d image
       bare : locked (chipOf d) cells ≡ false
       bare = opened ∙ (protected-same (d .words) cells reading (held (d .words + cpWord) (omega arith)) ∙ a .unprotected)
 
-  steps-are : ResetAddress ∷ bodyOf (chipOf d) (taskOf (chipOf d) (wanted d image reading) (known reading) (λ k. true) ids-differ ids-differ) ≡ updateSteps d image reading
+  steps-are : ResetAddress ∷ bodyOf (chipOf d) (taskOf (chipOf d) (wanted d image reading) (known reading) row-rises ids-rise ids-differ) ≡ updateSteps d image reading
   unfolding updateSteps updateTask
   steps-are = refl
 
@@ -222,9 +229,9 @@ module _ (d : Device) (image reading cells : List ℕ) (e : updateNumber d image
   pub update-recovers : Recovers (modelOf d) (bytesOf (updateSteps d image reading)) cells (programmed d image reading cells)
   update-recovers =
       subst (λ z. Recovers (modelOf d) (bytesOf z) cells (programmed d image reading cells)) steps-are
-      (subst (λ z. Recovers (modelOf d) (bytesOf (ResetAddress ∷ bodyOf (chipOf d) (taskOf (chipOf d) (wanted d image reading) (known reading) (λ k. true) ids-differ ids-differ))) cells z)
+      (subst (λ z. Recovers (modelOf d) (bytesOf (ResetAddress ∷ bodyOf (chipOf d) (taskOf (chipOf d) (wanted d image reading) (known reading) row-rises ids-rise ids-differ))) cells z)
       (programmed-is d r image reading cells long)
-      (chip-update-recovers (chipOf d) (sound-chip d r) (burning d) (wanted d image reading) (known reading) (λ k. true) ids-differ ids-differ cells begins (runRefusal d)
+      (chip-update-recovers (chipOf d) (sound-chip d r) (burning d) (wanted d image reading) (known reading) row-rises ids-rise ids-differ cells begins (runRefusal d)
       (unrefused d (a .device)) fit))
 
   -- wherever and however often it is cut, a bit that a configuration word does not have is the first cells'
@@ -239,18 +246,18 @@ module _ (d : Device) (image reading cells : List ℕ) (e : updateNumber d image
       (λ e. ap (λ w. bit w n) (still .kept (d .words + k) e))
     where
       spare-task : Task
-      spare-task = taskOf (chipOf d) (wanted d image reading) (known reading) (λ k. true) ids-differ ids-differ
+      spare-task = taskOf (chipOf d) (wanted d image reading) (known reading) row-rises ids-rise ids-differ
 
       still : Kept (chipOf d) (burning d) spare-task cells c
       still =
-          chip-update-kept (chipOf d) (sound-chip d r) (burning d) (wanted d image reading) (known reading) (λ k. true) ids-differ ids-differ cells begins (runRefusal d) fit c
+          chip-update-kept (chipOf d) (sound-chip d r) (burning d) (wanted d image reading) (known reading) row-rises ids-rise ids-differ cells begins (runRefusal d) fit c
           (subst (λ o. CutRuns (modelOf d) (bytesOf o) cells c) (sym steps-are) cut)
 
       within : k < readingTail
       within = sound-chip d r .config-within k config
 
       unwiped : wiped (chipOf d) spare-task (d .words + k) ≡ false
-      unwiped = wiped-word (chipOf d) spare-task k ∙ second-fails ids-differ (ltb k 4) (le-ltb k 4 (let y : 7 ≤ k = config-range k config .0 in omega arith))
+      unwiped = wiped-word (chipOf d) spare-task k ∙ second-fails ids-rise (ltb k 4) (le-ltb k 4 (let y : 7 ≤ k = config-range k config .0 in omega arith))
 
       as-first : known reading (d .words + k) ≡ getD cells (d .words + k) 0
       as-first = let y : k < readingTail = within in known-is (d .words + k) (omega arith) ∙ sym (held (d .words + k) (omega arith))

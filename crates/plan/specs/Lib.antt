@@ -1,15 +1,11 @@
 -- The three streams, and their laws in the modules whose names begin with Laws.
-pub mod Wanted
 pub mod Steps
 pub mod Answers
 pub mod Demands
-pub mod LawsSome
-pub mod LawsWanted
-pub mod LawsAccepted
 pub mod LawsPlanOrders
 pub mod LawsPlanWrote
 pub mod LawsPlanSteps
-pub mod LawsPlanWanted
+pub mod LawsPlanSource
 pub mod LawsPlanBounds
 pub mod LawsPlanCount
 pub mod LawsPlan

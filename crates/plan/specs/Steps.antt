@@ -9,7 +9,7 @@ use Rattle.device.specs.declared.Device.{Device}
 use Rattle.target.specs.Chip.{Chip, chipOf}
 use Rattle.target.specs.declared.Order.{Order}
 use Rattle.target.specs.declared.Order.the-variants.{LoadConfiguration, LoadData, Read, Increment, ResetAddress, Begin, BulkErase, RowErase}
-use Rattle.plan.specs.Wanted.{known, wanted, some, rowDiffers, idDiffers, configWrites}
+use Rattle.aim.specs.Wanted.{known, wanted, some, rowDiffers, rowRises, idDiffers, idRises, configWrites}
 
 -- ---- segments
 
@@ -93,11 +93,12 @@ taskOf chip word old eraseRow eraseIds allIds =
 
 -- ---- the streams
 
--- each row that is written is erased; if one user ID differs, all are erased and written
+-- a row that is written is erased if a word of it rises, the user IDs if one of them does; if one user ID differs, all are written
 unfoldable pub updateTask : Device → (image reading : List ℕ) → Task
 updateTask d image reading =
-    taskOf (chipOf d) (wanted d image reading) (known reading) (λ k. true)
-    (idDiffers (chipOf d) (wanted d image reading) (known reading))
+    taskOf (chipOf d) (wanted d image reading) (known reading)
+    (rowRises (chipOf d) (wanted d image reading) (known reading))
+    (idRises (chipOf d) (wanted d image reading) (known reading))
     (idDiffers (chipOf d) (wanted d image reading) (known reading))
 
 unfoldable pub updateSteps : Device → (image reading : List ℕ) → List Order

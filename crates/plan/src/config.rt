@@ -2,50 +2,24 @@
 use crate::orders::put_erase;
 use crate::orders::put_order;
 use crate::orders::put_walk;
-use crate::source::config_differs;
-use crate::source::wanted_word;
-use crate::source::word_differs;
 use device::Device;
 use target::Order;
 use words::ERASED;
 ghost use mathlib.Core.Path.{_≡_};
-ghost use Prim.Native.Nat.{_+_, _≤_, _<_};
-ghost use lib.ListN.{length};
-ghost use Rattle.device.specs.Memory.{readingTail};
+ghost use Prim.Native.Nat.{_+_, _<_};
 ghost use Rattle.target.specs.Chip.{chipOf};
-ghost use Rattle.plan.specs.Wanted.{known, wanted, some, configWrites};
+ghost use Rattle.aim.specs.Wanted.{known, wanted, some, configWrites};
 ghost use Rattle.plan.specs.Steps.{wordSteps, writesFrom, configSteps};
-ghost use Rattle.plan.specs.LawsPlanWanted.{Source};
+ghost use Rattle.plan.specs.LawsPlanSource.{Source};
 ghost use Rattle.plan.specs.LawsPlanWrote.{Wrote, Room};
-
-// Whether word k is written; `all_ids` asks for every user ID.
-pub(crate) fn is_written(d: Device, image: &[u16], reading: &[u16], k: usize, all_ids: bool) -> bool
-    requires { ⌜ d .words + readingTail ≤ length (now image) ⌝ }
-    ensures { λ r. ⌜ r ≡ configWrites (chipOf d) (wanted d (now (image .entry)) (now (reading .entry))) (known (now (reading .entry))) «all_ids» k ⌝ }
-{
-    if k < 4 {
-        if all_ids {
-            return true;
-        }
-        return word_differs(d, image, reading, (d.words as usize) + k);
-    }
-    if k < 7 {
-        return false;
-    }
-    if k < 9 {
-        return config_differs(d, image, reading, (d.words as usize) + k);
-    }
-    false
-}
 
 // Whether any word of configuration space is written.
 pub(crate) fn some_written(d: Device, image: &[u16], reading: &[u16], all_ids: bool) -> bool
-    requires { ⌜ d .words + readingTail ≤ length (now image) ⌝ }
     ensures { λ r. ⌜ r ≡ some 9 (configWrites (chipOf d) (wanted d (now (image .entry)) (now (reading .entry))) (known (now (reading .entry))) «all_ids») ⌝ }
 {
     let mut k: usize = 0;
     while k < 9 {
-        if is_written(d, image, reading, k, all_ids) {
+        if aim::is_written(d, image, reading, k, all_ids) {
             return true;
         }
         k += 1;
@@ -74,7 +48,6 @@ fn put_writes(
     all_ids: bool,
 ) -> usize
     requires { ⌜ Source d (now image) (now reading) ⌝ }
-    requires { ⌜ d .words + readingTail ≤ length (now image) ⌝ }
     requires { ⌜ Room (writesFrom (λ k. wanted d (now image) (now reading) (d .words + k)) (configWrites (chipOf d) (wanted d (now image) (now reading)) (known (now reading)) «all_ids») 9 0 0) steps (now out) ⌝ }
     ensures { λ r. ⌜ Wrote (writesFrom (λ k. wanted d (now (image .entry)) (now (reading .entry)) (d .words + k)) (configWrites (chipOf d) (wanted d (now (image .entry)) (now (reading .entry))) (known (now (reading .entry))) «all_ids») 9 0 0) steps (now (out .entry)) r (now (out .exit)) ⌝ }
 {
@@ -84,8 +57,8 @@ fn put_writes(
     while k < 9 {
         let here = k;
         k += 1;
-        if is_written(d, image, reading, here, all_ids) {
-            let word = wanted_word(d, image, reading, (d.words as usize) + here);
+        if aim::is_written(d, image, reading, here, all_ids) {
+            let word = aim::wanted(d, image, reading, (d.words as usize) + here);
             done = put_word(out, done, word, at, here);
             at = here;
         }
@@ -104,7 +77,6 @@ pub(crate) fn put_config(
     all_ids: bool,
 ) -> usize
     requires { ⌜ Source d (now image) (now reading) ⌝ }
-    requires { ⌜ d .words + readingTail ≤ length (now image) ⌝ }
     requires { ⌜ Room (configSteps (chipOf d) «erase_ids» (wanted d (now image) (now reading)) (configWrites (chipOf d) (wanted d (now image) (now reading)) (known (now reading)) «all_ids»)) steps (now out) ⌝ }
     ensures { λ r. ⌜ Wrote (configSteps (chipOf d) «erase_ids» (wanted d (now (image .entry)) (now (reading .entry))) (configWrites (chipOf d) (wanted d (now (image .entry)) (now (reading .entry))) (known (now (reading .entry))) «all_ids»)) steps (now (out .entry)) r (now (out .exit)) ⌝ }
 {

@@ -6,30 +6,24 @@ use crate::count::read_back_length;
 use crate::count::update_length;
 use crate::orders::put_order;
 use crate::orders::put_reads;
-use crate::refusal::fresh_refusal;
-use crate::refusal::update_refusal;
 use crate::rows::put_rows;
-use crate::source::id_differs;
 use device::Device;
 use target::Order;
 use words::ERASED;
 ghost use mathlib.Core.List.{[]};
-ghost use Prim.Native.Nat.{_+_, _≤_};
-ghost use lib.ListN.{length};
-ghost use Rattle.device.specs.Memory.{readingTail};
 ghost use Rattle.device.specs.LawsRecord.{Rules};
-ghost use Rattle.target.specs.Chip.{chipOf};
-ghost use Rattle.plan.specs.Wanted.{known, wanted};
-ghost use Rattle.plan.specs.Steps.{taskOf, bodyOf, updateSteps, freshSteps, readBackSteps};
-ghost use Rattle.plan.specs.Answers.{updateNumber, freshNumber, readBackNumber, Plans};
-ghost use Rattle.plan.specs.LawsPlanWanted.{Source};
+ghost use Rattle.plan.specs.Steps.{updateSteps, freshSteps, readBackSteps};
+ghost use Rattle.aim.specs.Refusal.{updateNumber, freshNumber};
+ghost use Rattle.plan.specs.Answers.{readBackNumber, Plans};
+ghost use Rattle.plan.specs.LawsPlanSource.{Source};
+ghost use Rattle.plan.specs.LawsPlanSteps.{planBody};
 ghost use Rattle.plan.specs.LawsPlanWrote.{Wrote, Room};
 
 // The stream that makes a board that holds the reading hold what is wanted: 13, 20 to 24 or 26, or its steps.
 pub fn update(d: Device, image: &[u16], reading: &[u16], out: &mut [u8]) -> Planned
     ensures { λ r. ⌜ Plans (updateNumber d (now (image .entry)) (now (reading .entry))) (updateSteps d (now (image .entry)) (now (reading .entry))) (now (out .entry)) r (now (out .exit)) ⌝ }
 {
-    let number = update_refusal(d, image, reading);
+    let number = aim::update_refusal(d, image, reading);
     if number != 0 {
         return Planned { number, steps: 0 };
     }
@@ -48,7 +42,7 @@ pub fn update(d: Device, image: &[u16], reading: &[u16], out: &mut [u8]) -> Plan
 pub fn fresh(d: Device, image: &[u16], id_word: u16, out: &mut [u8]) -> Planned
     ensures { λ r. ⌜ Plans (freshNumber d (now (image .entry)) «id_word») (freshSteps d (now (image .entry))) (now (out .entry)) r (now (out .exit)) ⌝ }
 {
-    let number = fresh_refusal(d, image, id_word);
+    let number = aim::fresh_refusal(d, image, id_word);
     if number != 0 {
         return Planned { number, steps: 0 };
     }
@@ -87,20 +81,19 @@ pub fn read_back(d: Device, out: &mut [u8]) -> Planned
 // The update's steps, from the first on.
 fn put_update(out: &mut [u8], d: Device, image: &[u16], reading: &[u16]) -> usize
     requires { ⌜ Rules d ⌝ }
-    requires { ⌜ d .words + readingTail ≤ length (now image) ⌝ }
     requires { ⌜ Source d (now image) (now reading) ⌝ }
     requires { ⌜ Room (updateSteps d (now image) (now reading)) 0 (now out) ⌝ }
     ensures { λ r. ⌜ Wrote (updateSteps d (now (image .entry)) (now (reading .entry))) 0 (now (out .entry)) r (now (out .exit)) ⌝ }
 {
-    let ids = id_differs(d, image, reading);
+    let rise = aim::id_rises(d, image, reading);
+    let ids = aim::id_differs(d, image, reading);
     let reset = put_order(out, 0, Order::ResetAddress);
-    put_body(out, reset, d, image, reading, true, ids, ids)
+    put_body(out, reset, d, image, reading, true, rise, ids)
 }
 
 // The fresh stream's steps: the empty part of the image stands for the reading that there is not.
 fn put_fresh(out: &mut [u8], d: Device, image: &[u16]) -> usize
     requires { ⌜ Rules d ⌝ }
-    requires { ⌜ d .words + readingTail ≤ length (now image) ⌝ }
     requires { ⌜ Source d (now image) [] ⌝ }
     requires { ⌜ Room (freshSteps d (now image)) 0 (now out) ⌝ }
     ensures { λ r. ⌜ Wrote (freshSteps d (now (image .entry))) 0 (now (out .entry)) r (now (out .exit)) ⌝ }
@@ -118,17 +111,16 @@ fn put_body(
     d: Device,
     image: &[u16],
     reading: &[u16],
-    erase: bool,
+    erases: bool,
     erase_ids: bool,
     all_ids: bool,
 ) -> usize
     requires { ⌜ Rules d ⌝ }
-    requires { ⌜ d .words + readingTail ≤ length (now image) ⌝ }
     requires { ⌜ Source d (now image) (now reading) ⌝ }
-    requires { ⌜ Room (bodyOf (chipOf d) (taskOf (chipOf d) (wanted d (now image) (now reading)) (known (now reading)) (λ k. erase) «erase_ids» «all_ids»)) steps (now out) ⌝ }
-    ensures { λ r. ⌜ Wrote (bodyOf (chipOf d) (taskOf (chipOf d) (wanted d (now (image .entry)) (now (reading .entry))) (known (now (reading .entry))) (λ k. erase) «erase_ids» «all_ids»)) steps (now (out .entry)) r (now (out .exit)) ⌝ }
+    requires { ⌜ Room (planBody d (now image) (now reading) erases «erase_ids» «all_ids») steps (now out) ⌝ }
+    ensures { λ r. ⌜ Wrote (planBody d (now (image .entry)) (now (reading .entry)) erases «erase_ids» «all_ids») steps (now (out .entry)) r (now (out .exit)) ⌝ }
 {
-    let program = put_rows(out, steps, d, image, reading, erase);
+    let program = put_rows(out, steps, d, image, reading, erases);
     put_config(out, program, d, image, reading, erase_ids, all_ids)
 }
 

@@ -2,20 +2,19 @@
 use crate::orders::put_erase;
 use crate::orders::put_order;
 use crate::orders::put_walk;
-use crate::source::plain_word;
-use crate::source::some_differ;
 use device::Device;
 use target::Order;
+ghost use mathlib.Core.Path.{_≡_};
+ghost use mathlib.Core.Bool.{_&&_};
 ghost use mathlib.Core.List.{[], _∷_};
 ghost use Prim.Native.Nat.{_+_, _/_, _≤_, _<_};
-ghost use lib.ListN.{length};
-ghost use Rattle.device.specs.Memory.{readingTail, cpWord};
 ghost use Rattle.device.specs.LawsRecord.{Rules};
 ghost use Rattle.target.specs.Chip.{chipOf};
 ghost use Rattle.target.specs.declared.Order.the-variants.{LoadData};
-ghost use Rattle.plan.specs.Wanted.{known, wanted, rowDiffers};
-ghost use Rattle.plan.specs.Steps.{loads, rowSteps, rowsFrom};
-ghost use Rattle.plan.specs.LawsPlanWanted.{Source};
+ghost use Rattle.aim.specs.Wanted.{known, wanted, rowRises};
+ghost use Rattle.plan.specs.Steps.{loads, rowSteps};
+ghost use Rattle.plan.specs.LawsPlanSteps.{planRows};
+ghost use Rattle.plan.specs.LawsPlanSource.{Source};
 ghost use Rattle.plan.specs.LawsPlanWrote.{Wrote, Room, ample};
 
 // One wanted word loaded; that it has 14 bits is what the judged image and reading are for.
@@ -28,14 +27,13 @@ fn put_load(
     i: usize,
 ) -> usize
     requires { ⌜ Source d (now image) (now reading) ⌝ }
-    requires { ⌜ (i < length (now image)) × (i < d .words + cpWord) ⌝ }
     requires { ⌜ Room (LoadData (wanted d (now image) (now reading) i) ∷ []) steps (now out) ⌝ }
     ensures { λ r. ⌜ Wrote (LoadData (wanted d (now (image .entry)) (now (reading .entry)) i) ∷ []) steps (now (out .entry)) r (now (out .exit)) ⌝ }
 {
     put_order(
         out,
         steps,
-        Order::LoadData(plain_word(d, image, reading, i)),
+        Order::LoadData(aim::wanted(d, image, reading, i)),
     )
 }
 
@@ -50,7 +48,7 @@ fn put_loads(
     count: usize,
 ) -> usize
     requires { ⌜ Source d (now image) (now reading) ⌝ }
-    requires { ⌜ (0 < count) × (first + count ≤ ample) × (first + count ≤ length (now image)) × (first + count ≤ d .words) ⌝ }
+    requires { ⌜ (0 < count) × (first + count ≤ ample) ⌝ }
     requires { ⌜ Room (loads (wanted d (now image) (now reading)) first count) steps (now out) ⌝ }
     ensures { λ r. ⌜ Wrote (loads (wanted d (now (image .entry)) (now (reading .entry))) first count) steps (now (out .entry)) r (now (out .exit)) ⌝ }
 {
@@ -78,7 +76,7 @@ fn put_row(
     erase: bool,
 ) -> usize
     requires { ⌜ Source d (now image) (now reading) ⌝ }
-    requires { ⌜ (0 < d .row) × (first + d .row ≤ ample) × (first + d .row ≤ length (now image)) × (first + d .row ≤ d .words) ⌝ }
+    requires { ⌜ (0 < d .row) × (first + d .row ≤ ample) ⌝ }
     requires { ⌜ Room (rowSteps (chipOf d) erase (wanted d (now image) (now reading)) at first) steps (now out) ⌝ }
     ensures { λ r. ⌜ Wrote (rowSteps (chipOf d) erase (wanted d (now (image .entry)) (now (reading .entry))) at first) steps (now (out .entry)) r (now (out .exit)) ⌝ }
 {
@@ -88,6 +86,16 @@ fn put_row(
     put_order(out, loaded, Order::Begin)
 }
 
+// Whether row k is erased before it is written: only where erases by row are asked for, and there if a word of it rises.
+pub(crate) fn is_erased(d: Device, image: &[u16], reading: &[u16], k: u16, erases: bool) -> bool
+    ensures { λ r. ⌜ r ≡ (erases && rowRises (chipOf d) (wanted d (now (image .entry)) (now (reading .entry))) (known (now (reading .entry))) k) ⌝ }
+{
+    if erases {
+        return aim::row_rises(d, image, reading, k);
+    }
+    false
+}
+
 // The rows in which some word differs, ascending; the counter is carried along, and after a row it stands at the row's last word.
 pub(crate) fn put_rows(
     out: &mut [u8],
@@ -95,23 +103,24 @@ pub(crate) fn put_rows(
     d: Device,
     image: &[u16],
     reading: &[u16],
-    erase: bool,
+    erases: bool,
 ) -> usize
     requires { ⌜ Rules d ⌝ }
     requires { ⌜ Source d (now image) (now reading) ⌝ }
-    requires { ⌜ d .words + readingTail ≤ length (now image) ⌝ }
-    requires { ⌜ Room (rowsFrom (chipOf d) (λ k. erase) (wanted d (now image) (now reading)) (rowDiffers (chipOf d) (wanted d (now image) (now reading)) (known (now reading))) (d .words / d .row) 0 0) steps (now out) ⌝ }
-    ensures { λ r. ⌜ Wrote (rowsFrom (chipOf d) (λ k. erase) (wanted d (now (image .entry)) (now (reading .entry))) (rowDiffers (chipOf d) (wanted d (now (image .entry)) (now (reading .entry))) (known (now (reading .entry)))) (d .words / d .row) 0 0) steps (now (out .entry)) r (now (out .exit)) ⌝ }
+    requires { ⌜ Room (planRows d (now image) (now reading) erases (d .words / d .row) 0 0) steps (now out) ⌝ }
+    ensures { λ r. ⌜ Wrote (planRows d (now (image .entry)) (now (reading .entry)) erases (d .words / d .row) 0 0) steps (now (out .entry)) r (now (out .exit)) ⌝ }
 {
     let row = d.row as usize;
-    let rows = (d.words as usize) / row;
+    let rows = d.words / d.row;
     let mut done = steps;
     let mut at: usize = 0;
-    let mut k: usize = 0;
+    let mut k: u16 = 0;
     while k < rows {
-        let first = k * row;
+        let here = k;
         k += 1;
-        if some_differ(d, image, reading, first, row) {
+        if aim::row_differs(d, image, reading, here) {
+            let first = (here as usize) * row;
+            let erase = is_erased(d, image, reading, here, erases);
             done = put_row(out, done, d, image, reading, at, first, erase);
             at = first + (row - 1);
         }

@@ -18,7 +18,7 @@ use Rattle.device.specs.Memory.{readingTail, cellsTail, programmable, readingOk
 use Rattle.device.specs.LawsMemory.{reading-long}
 use Rattle.target.specs.Chip.{chipOf}
 use Rattle.target.specs.Step.{soundCells}
-use Rattle.plan.specs.Wanted.{wanted}
+use Rattle.aim.specs.Wanted.{wanted}
 use Rattle.plan.specs.Demands.{programmed}
 use Rattle.board.specs.Open.{recordOf, boardNumber, boardReading, openedReading}
 use Rattle.board.specs.LawsBoard.{Board, mostReading, board-opened}

@@ -21,13 +21,13 @@ use Rattle.target.specs.Run.{modelOf, ran}
 use Rattle.target.specs.Cut
 use Rattle.target.specs.Stream.{bytesOf}
 use Rattle.target.specs.LawsStream.{FitsAll, length-bytes}
-use Rattle.plan.specs.Wanted.{wanted}
+use Rattle.aim.specs.Wanted.{wanted}
 use Rattle.plan.specs.Steps.{taskOf, updateTask, updateSteps, freshTask, freshSteps}
-use Rattle.plan.specs.Answers.{updateNumber, freshNumber}
+use Rattle.aim.specs.Refusal.{updateNumber, freshNumber}
 use Rattle.plan.specs.Demands.{programmed}
-use Rattle.plan.specs.LawsWanted.{known-fits, wanted-fits}
+use Rattle.aim.specs.LawsWanted.{known-fits, wanted-fits}
 use Rattle.plan.specs.LawsFits.{fits-body}
-use Rattle.plan.specs.LawsAccepted.{Accepted, accepted, AcceptedFresh, accepted-fresh}
+use Rattle.aim.specs.LawsAccepted.{Accepted, accepted, AcceptedFresh, accepted-fresh}
 use Rattle.plan.specs.LawsUpdate.{update-recovers}
 use Rattle.plan.specs.LawsFresh.{fresh-recovers}
 use Rattle.board.specs.Open.{recordOf, boardNumber, boardReading}

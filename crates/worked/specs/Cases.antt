@@ -9,7 +9,7 @@ use Rattle.device.specs.declared.Device.{Device}
 use Rattle.hexread.specs.Reader.{textRead}
 use Rattle.judge.specs.Checksum.{checksumOf}
 use Rattle.plan.specs.Steps.{updateSteps}
-use Rattle.plan.specs.Answers.{updateNumber}
+use Rattle.aim.specs.Refusal.{updateNumber}
 use Rattle.target.specs.Run.{ran}
 use Rattle.target.specs.Stream.{bytesOf}
 use Rattle.target.specs.declared.Order.{Order}
@@ -78,13 +78,17 @@ protectedSum = eqb (checksumOf tiny protectedBoard) 0x66ca
 unfoldable pub blankSum : Bool
 blankSum = eqb (checksumOf tiny blankTiny) 0x7ee2
 
--- an update of a blank board that is not refused and takes so many steps
-unfoldable pub takes : (image : List ℕ) → ℕ → Bool
-takes image n = eqb (updateNumber tiny image blankTiny) 0 && eqb (length (updateSteps tiny image blankTiny)) n
+-- an update that is not refused and takes so many steps
+unfoldable pub takes : (image reading : List ℕ) → ℕ → Bool
+takes image reading n = eqb (updateNumber tiny image reading) 0 && eqb (length (updateSteps tiny image reading)) n
 
--- only row 0 changes: 18 steps; only row 1: 26
+-- only row 0 changes: 18 steps where a bit rises, 17 where none does; only row 1: 26, or 25
 unfoldable pub oneRow : Bool
-oneRow = takes (set noImage 3 0x1234) 18 && takes (set noImage 11 0x1234) 26
+oneRow =
+    takes (set noImage 3 0x1234) (set blankTiny 3 0x1200) 18
+    && takes (set noImage 11 0x1234) (set blankTiny 11 0x1200) 26
+    && takes (set noImage 3 0x1234) blankTiny 17
+    && takes (set noImage 11 0x1234) blankTiny 25
 
 -- eight loads at 0002h to 0009h and Begin at 0009h write 0008h to 000Fh
 unfoldable pub loadsFrom : ℕ → ℕ → List Order

@@ -4,7 +4,7 @@ use mathlib.Core.List.{List, [], _∷_, _++_}
 use lib.ListN.{set, replicate}
 use Rattle.words.specs.Word.{erased}
 use Rattle.device.specs.declared.Device.{Device}
-use Rattle.plan.specs.Wanted.{wanted}
+use Rattle.aim.specs.Wanted.{wanted}
 use Rattle.plan.specs.Steps.{Task, rowsFrom, configSteps, updateTask}
 use Rattle.target.specs.Chip.{chipOf}
 use Rattle.target.specs.declared.Order.{Order}
@@ -28,12 +28,12 @@ configOf d t = configSteps (chipOf d) (t .eraseIds) (t .word) (t .writes)
 unfoldable pub blankWhereSilent : Device → (image reading : List ℕ) → List Order
 blankWhereSilent d image reading = rowsOf d (wanted d image []) (updateTask d image reading)
 
--- word 0003h is given, and the board has 0123h at 0002h
+-- word 0003h is given with a bit that the board has not there, so that its row is erased, and the board has 0123h at 0002h
 abbrev pub silentImage : List ℕ
 silentImage = set noImage 3 0x1234
 
 abbrev pub silentBoard : List ℕ
-silentBoard = set blankTiny 2 0x0123
+silentBoard = set (set blankTiny 2 0x0123) 3 0x1200
 
 -- ---- setting CP before the last program row is written
 

@@ -11,7 +11,7 @@ use Rattle.words.specs.Lists.{build, inRange, every}
 use Rattle.words.specs.Address.{entryOf, successor}
 use Rattle.device.specs.Record.{rowOk, wordsUpTo, deviceUpTo, deviceOk}
 use Rattle.device.specs.Memory.{isConfig, programmable, maskAt, zeroBit}
-use Rattle.plan.specs.Wanted.{known, wanted, differs, some, rowDiffers, idDiffers, configWrites}
+use Rattle.aim.specs.Wanted.{known, wanted, some, differs, onlyClears, rises, rowDiffers, rowRises, idDiffers, idRises, configWrites}
 use Rattle.plan.specs.Steps.{walk, loads, setSteps, erasing, rowSteps, rowsFrom, wordSteps, writesFrom, configSteps, taskOf, updateTask}
 use Rattle.plan.specs.Demands.{programmed}
 use Rattle.target.specs.Effects.{blank, locked, edit, inProgram, idCell, configCell, atErase, rowErased, bulkErased, beginWritten, latchOf, burnt}
@@ -30,7 +30,7 @@ silent-leaves : getD (ran tiny (bytesOf (blankWhereSilent tiny silentImage silen
 unfolding blankWhereSilent pick without spare underMask maskAt isWord bit wordsOf every build inRange entryOf successor rowOk wordsUpTo deviceUpTo deviceOk
     isConfig zeroBit blank locked edit inProgram idCell configCell atErase rowErased bulkErased beginWritten latchOf burnt entered loadOk load plain
     decoded effect stepEffect soundCells unread codeAt payloadAt onward turn after started runOf runRefusal ran codeOf payloadOf stepBytes bytesOf
-    known wanted differs some rowDiffers idDiffers configWrites walk loads setSteps erasing rowSteps rowsFrom wordSteps writesFrom configSteps taskOf
+    known wanted differs onlyClears rises some rowDiffers rowRises idDiffers idRises configWrites walk loads setSteps erasing rowSteps rowsFrom wordSteps writesFrom configSteps taskOf
     updateTask rowsOf configOf
 silent-leaves = refl
 
@@ -39,8 +39,8 @@ unfolding programmed programmable isConfig pick without spare underMask maskAt b
 silent-wanted = refl
 
 silent-steps : Prim.Native.Nat._/_ (lib.ListN.length (bytesOf (blankWhereSilent tiny silentImage silentBoard))) 3 ≤ 100
-unfolding blankWhereSilent pick without spare underMask maskAt isConfig codeOf payloadOf stepBytes bytesOf known wanted differs some rowDiffers
-    idDiffers configWrites walk loads setSteps erasing rowSteps rowsFrom wordSteps writesFrom configSteps taskOf updateTask rowsOf configOf
+unfolding blankWhereSilent pick without spare underMask maskAt isConfig codeOf payloadOf stepBytes bytesOf known wanted differs onlyClears rises some rowDiffers rowRises
+    idDiffers idRises configWrites walk loads setSteps erasing rowSteps rowsFrom wordSteps writesFrom configSteps taskOf updateTask rowsOf configOf
 silent-steps = omega arith
 
 pub silent-fails : Recovers (modelOf tiny) (bytesOf (blankWhereSilent tiny silentImage silentBoard)) (boardCells silentBoard) (programmed tiny silentImage silentBoard (boardCells silentBoard)) → ⊥
@@ -57,7 +57,7 @@ config-first-leaves : getD (ran tiny (bytesOf (configFirst tiny protectingImage 
 unfolding configFirst pick without spare underMask maskAt isWord bit wordsOf every build inRange entryOf successor rowOk wordsUpTo deviceUpTo deviceOk isConfig
     zeroBit blank locked edit inProgram idCell configCell atErase rowErased bulkErased beginWritten latchOf burnt entered loadOk load plain decoded
     effect stepEffect soundCells unread codeAt payloadAt onward turn after started runOf runRefusal ran codeOf payloadOf stepBytes bytesOf known
-    wanted differs some rowDiffers idDiffers configWrites walk loads setSteps erasing rowSteps rowsFrom wordSteps writesFrom configSteps taskOf
+    wanted differs onlyClears rises some rowDiffers rowRises idDiffers idRises configWrites walk loads setSteps erasing rowSteps rowsFrom wordSteps writesFrom configSteps taskOf
     updateTask rowsOf configOf
 config-first-leaves = refl
 
@@ -66,8 +66,8 @@ unfolding programmed programmable isConfig pick without spare underMask maskAt b
 config-first-wanted = refl
 
 config-first-steps : Prim.Native.Nat._/_ (lib.ListN.length (bytesOf (configFirst tiny protectingImage blankTiny))) 3 ≤ 100
-unfolding configFirst pick without spare underMask maskAt isConfig inRange codeOf payloadOf stepBytes bytesOf known wanted differs some rowDiffers
-    idDiffers configWrites walk loads setSteps erasing rowSteps rowsFrom wordSteps writesFrom configSteps taskOf updateTask rowsOf configOf
+unfolding configFirst pick without spare underMask maskAt isConfig inRange codeOf payloadOf stepBytes bytesOf known wanted differs onlyClears rises some rowDiffers rowRises
+    idDiffers idRises configWrites walk loads setSteps erasing rowSteps rowsFrom wordSteps writesFrom configSteps taskOf updateTask rowsOf configOf
 config-first-steps = omega arith
 
 pub config-first-fails : Recovers (modelOf tiny) (bytesOf (configFirst tiny protectingImage blankTiny)) (boardCells blankTiny) (programmed tiny protectingImage blankTiny (boardCells blankTiny)) → ⊥

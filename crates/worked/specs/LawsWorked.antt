@@ -15,8 +15,8 @@ use Rattle.hexread.specs.Step.{wordOf, byteAddress, entryAt, entryOfWord, wordN
 use Rattle.hexread.specs.Reader.{blankImage, refusedAt, readLines, textRead}
 use Rattle.hexread.specs.Reader
 use Rattle.judge.specs.Checksum.{sumTo, configSum, nibbles, checksumOf}
-use Rattle.plan.specs.Wanted.{known, wanted, differs, some, rowDiffers, idDiffers, configWrites}
-use Rattle.plan.specs.Answers.{onlyClears, configOk, updateNumber}
+use Rattle.aim.specs.Wanted.{known, wanted, some, differs, onlyClears, rises, rowDiffers, rowRises, idDiffers, idRises, configWrites}
+use Rattle.aim.specs.Refusal.{configOk, updateNumber}
 use Rattle.plan.specs.Steps.{walk, loads, setSteps, erasing, rowSteps, rowsFrom, wordSteps, writesFrom, configSteps, bodyOf, taskOf, updateTask, updateSteps}
 use Rattle.target.specs.Effects.{blank, locked, edit, inProgram, idCell, configCell, atErase, rowErased, bulkErased, beginWritten, latchOf, burnt}
 use Rattle.target.specs.Step.{loadOk, load, plain, decoded, effect, stepEffect, soundCells, unread}
@@ -57,7 +57,7 @@ blank-sum = refl
 one-row : oneRow ≡ true
 unfolding oneRow takes pick without spare underMask Memory.maskAt isWord bit every wordsOf rowOk wordsUpTo deviceUpTo deviceOk fits Memory.isConfig
     Memory.zeroBit Memory.programmable Memory.entryOk Memory.imageOk Memory.readingOk Memory.protected onlyClears configOk updateNumber known wanted
-    differs some rowDiffers idDiffers configWrites inRange walk loads setSteps erasing rowSteps rowsFrom wordSteps writesFrom configSteps bodyOf
+    differs rises some rowDiffers rowRises idDiffers idRises configWrites inRange walk loads setSteps erasing rowSteps rowsFrom wordSteps writesFrom configSteps bodyOf
     taskOf updateTask updateSteps
 one-row = refl
 

@@ -3,3 +3,4 @@ pub mod Cases
 pub mod Errors
 pub mod LawsWorked
 pub mod LawsErrors
+pub mod LawsBulk

@@ -5,11 +5,14 @@ use crate::field::Kind::{self, Bytes, HexBytes, Latches, Num, Words};
 use crate::field::{self, Field};
 use crate::model::{self, Registers};
 use crate::sheet::Form;
+use crate::streams::Unjudged;
 use crate::words as w;
 use crate::{bench, board, hex, judge, print, sheet, streams};
 
 /// The call that reads HEX text.
 pub const HEX_READER: &str = "ihex.read_hex";
+/// The call that plans an update.
+pub const PLANNER: &str = "plan.update";
 
 /// An answer's fields, and the number that it is counted under.
 pub struct Reply {
@@ -56,6 +59,7 @@ impl Call {
 /// What 0 and 1 mean for calls that give no refusal numbers.
 pub const CLASSES: &str =
     "words.*, print.*, next_line, line_from, first_number, third_line: 0 found or done, 1 nothing there (no room); is_words, is_name, is_image, is_reading, is_protected, programmable, fits: the answer; \
+     row_differs, row_rises, id_differs, id_rises, is_written: the answer; \
      under_mask: 0 a configuration word, 1 another entry; plan.wanted: 0 given by the image, 1 not";
 
 #[derive(Clone, Debug)]
@@ -90,6 +94,14 @@ impl Request {
     pub fn table(&self) -> Option<&[u8]> {
         let judged = self.call().judges_table();
         judged.then(|| field::bytes(&self.fields, 0))
+    }
+
+    /// The image and the reading of a request that has them after its record.
+    pub fn lists(&self) -> (&[u16], &[u16]) {
+        (
+            field::words(&self.fields, D),
+            field::words(&self.fields, D + 1),
+        )
     }
 
     /// The record that it is about, if its call takes one or finds one to move by.
@@ -180,6 +192,21 @@ fn place(found: Option<u16>) -> Reply {
 
 fn truth(b: bool) -> Reply {
     reply(u32::from(b), vec![u64::from(b).into()])
+}
+
+/// The answer that is a refusal's number alone, or 0.
+fn refusal(number: Option<u32>) -> Reply {
+    let number = number.unwrap_or(0);
+    reply(number, vec![number.into()])
+}
+
+/// Record, image and reading, the first fields of a request.
+fn unjudged(f: &[Field]) -> Unjudged<'_> {
+    Unjudged {
+        d: device_at(f),
+        image: field::words(f, D),
+        reading: field::words(f, D + 1),
+    }
 }
 
 fn spelled(f: &[Field], count: usize, value: fn(u8) -> Option<u8>, none: u32) -> Reply {
@@ -789,7 +816,7 @@ pub static CALLS: &[Call] = &[
         own: run,
     },
     Call {
-        name: "plan.update",
+        name: PLANNER,
         kinds: &[
             Num(16),
             Num(16),
@@ -860,6 +887,124 @@ pub static CALLS: &[Call] = &[
             let (image, reading) = (field::words(f, D), field::words(f, D + 1));
             let (given, word) = streams::wanted_at(&device_at(f), image, reading, i);
             reply(u32::from(!given), vec![word.into()])
+        },
+    },
+    Call {
+        name: "plan.row_differs",
+        kinds: &[
+            Num(16),
+            Num(16),
+            Num(16),
+            Num(16),
+            Num(16),
+            Num(16),
+            Words,
+            Words,
+            Num(16),
+        ],
+        classes: &[0, 1],
+        own: |f| truth(unjudged(f).row_differs(n16(f, D + 2))),
+    },
+    Call {
+        name: "plan.row_rises",
+        kinds: &[
+            Num(16),
+            Num(16),
+            Num(16),
+            Num(16),
+            Num(16),
+            Num(16),
+            Words,
+            Words,
+            Num(16),
+        ],
+        classes: &[0, 1],
+        own: |f| truth(unjudged(f).row_rises(n16(f, D + 2))),
+    },
+    Call {
+        name: "plan.id_differs",
+        kinds: &[
+            Num(16),
+            Num(16),
+            Num(16),
+            Num(16),
+            Num(16),
+            Num(16),
+            Words,
+            Words,
+        ],
+        classes: &[0, 1],
+        own: |f| truth(unjudged(f).id_differs()),
+    },
+    Call {
+        name: "plan.id_rises",
+        kinds: &[
+            Num(16),
+            Num(16),
+            Num(16),
+            Num(16),
+            Num(16),
+            Num(16),
+            Words,
+            Words,
+        ],
+        classes: &[0, 1],
+        own: |f| truth(unjudged(f).id_rises()),
+    },
+    Call {
+        name: "plan.is_written",
+        kinds: &[
+            Num(16),
+            Num(16),
+            Num(16),
+            Num(16),
+            Num(16),
+            Num(16),
+            Words,
+            Words,
+            Num(64),
+            Num(16),
+        ],
+        classes: &[0, 1],
+        own: |f| {
+            let all_ids = n16(f, D + 3) != 0;
+            truth(unjudged(f).is_written(field::num(f, D + 2), all_ids))
+        },
+    },
+    Call {
+        name: "plan.update_refusal",
+        kinds: &[
+            Num(16),
+            Num(16),
+            Num(16),
+            Num(16),
+            Num(16),
+            Num(16),
+            Words,
+            Words,
+        ],
+        classes: &[0, 13, 20, 21, 22, 23, 24],
+        own: |f| {
+            let u = unjudged(f);
+            refusal(streams::update_refusal(&u.d, u.image, u.reading))
+        },
+    },
+    Call {
+        name: "plan.fresh_refusal",
+        kinds: &[
+            Num(16),
+            Num(16),
+            Num(16),
+            Num(16),
+            Num(16),
+            Num(16),
+            Words,
+            Num(16),
+        ],
+        classes: &[0, 13, 20, 22],
+        own: |f| {
+            let image = field::words(f, D);
+            refusal(streams::fresh_refusal(&device_at(f), image, n16(f, D + 1)))
         },
     },
     Call {

@@ -3,10 +3,10 @@
 //! All runs and streams are the command's; each answer is held against our own too.
 
 use crate::ask::Peer;
-use crate::calls::{device_fields, Request};
+use crate::calls::{device_fields, Request, PLANNER};
 use crate::device::Device;
 use crate::field::{parse, Kind};
-use crate::gen::{device_of_size, image_for, lent, lent_words, reading_for};
+use crate::gen::{device_of_size, image_for, lent, lent_words, reading_for, turned, Turn};
 use crate::model::{BEGIN, BULK_ERASE, INCREMENT, LOAD_CONFIGURATION, LOAD_DATA, RESET, ROW_ERASE};
 use crate::rng::Rng;
 use crate::streams::{steps_bound, wanted_blank, wanted_over};
@@ -32,8 +32,112 @@ struct Plan {
     /// The bits of the cells that no cut of an update may change. Bulk Erase sets them all, so a fresh programming has none.
     spare: Vec<u16>,
     stream: Vec<u8>,
+    /// The kind of each Begin of an update that writes a row or a user ID.
+    begins: Vec<Option<Written>>,
     /// The cells after each count of steps of an unbroken run.
     after: Vec<Vec<u16>>,
+}
+
+/// What a Begin of an update writes, and how.
+#[derive(Clone, Copy, Debug, PartialEq, Eq)]
+enum Written {
+    ErasedRow,
+    Row,
+    ErasedIds,
+    Ids,
+}
+
+/// The kinds as they are counted.
+const KINDS: [(Written, &str); 4] = [
+    (Written::ErasedRow, "a row with an erase"),
+    (Written::Row, "a row without"),
+    (Written::ErasedIds, "IDs with an erase"),
+    (Written::Ids, "IDs without"),
+];
+/// In how many streams each kind must be met, and how many cuts must fall inside a Begin of it that was changing cells. Where fewer
+/// cut runs are asked for than this many, nothing is asked of them.
+const STREAMS_AT_LEAST: usize = 5;
+const CUTS_AT_LEAST: usize = 100;
+const FROM_CUT_RUNS: usize = 3_000;
+
+/// How often each kind was met.
+#[derive(Default)]
+struct Met {
+    streams: [usize; 4],
+    cuts: [usize; 4],
+}
+
+impl Met {
+    fn stream(&mut self, plan: &Plan) {
+        for (i, (kind, _)) in KINDS.iter().enumerate() {
+            self.streams[i] += usize::from(plan.begins.contains(&Some(*kind)));
+        }
+    }
+
+    /// A cut at a step that was changing these cells to those.
+    fn cut(&mut self, plan: &Plan, step: usize, before: &[u16], after: &[u16]) {
+        let kind = plan.begins[step].filter(|_| before != after);
+        if let Some(i) = KINDS.iter().position(|(k, _)| Some(*k) == kind) {
+            self.cuts[i] += 1;
+        }
+    }
+
+    fn report(&self, cut_runs: usize, tally: &mut Tally) {
+        let line = |counts: &[usize; 4]| -> String {
+            let each = KINDS.iter().zip(counts);
+            let each: Vec<String> = each.map(|((_, what), n)| format!("{what} {n}")).collect();
+            each.join(", ")
+        };
+        println!(
+            "updates with {}; cuts inside a Begin of {}",
+            line(&self.streams),
+            line(&self.cuts)
+        );
+        if cut_runs < FROM_CUT_RUNS {
+            return;
+        }
+        let counts = self.streams.iter().map(|&n| (n, STREAMS_AT_LEAST));
+        for (n, least) in counts.chain(self.cuts.iter().map(|&n| (n, CUTS_AT_LEAST))) {
+            tally.check(n >= least, || {
+                format!("rows or IDs of a kind were met only {n} times of {least}")
+            });
+        }
+    }
+}
+
+/// The kind of each step of an update.
+fn begins(stream: &[u8]) -> Vec<Option<Written>> {
+    let mut counter = 0;
+    let mut erased = false;
+    let mut kinds = Vec::new();
+    for step in stream.chunks(3) {
+        let mut kind = None;
+        match step[0] {
+            RESET => counter = 0,
+            LOAD_CONFIGURATION => counter = 0x8000,
+            INCREMENT => counter += 1,
+            ROW_ERASE => erased = true,
+            BEGIN if counter < 0x8000 => {
+                kind = Some(if erased {
+                    Written::ErasedRow
+                } else {
+                    Written::Row
+                });
+                // An erase is of the one row that is written next, or of all four IDs.
+                erased = false;
+            }
+            BEGIN if counter <= 0x8003 => {
+                kind = Some(if erased {
+                    Written::ErasedIds
+                } else {
+                    Written::Ids
+                });
+            }
+            _ => {}
+        }
+        kinds.push(kind);
+    }
+    kinds
 }
 
 /// A board that was cut at least once and waits for the next run.
@@ -58,6 +162,13 @@ fn kept_by_update(d: &Device, first: &[u16], end: &[u16]) -> Vec<bool> {
         .collect()
 }
 
+/// Makes words fall only, or rise, from words that can do both.
+fn turn_words(image: &mut [u16], reading: &mut [u16], rng: &mut Rng) {
+    reading.iter_mut().for_each(|w| *w = rng.word());
+    let turn = rng.pick(&[Turn::Fall, Turn::Fall, Turn::Rise, Turn::RiseOnce]);
+    image.copy_from_slice(&turned(reading, turn, 80, 20, rng));
+}
+
 fn plan(rng: &mut Rng) -> Plan {
     let device = loop {
         let d = device_of_size(8, rng);
@@ -70,8 +181,17 @@ fn plan(rng: &mut Rng) -> Plan {
     let update = rng.chance(65);
     // A fresh programming is for any target, protected or not.
     let protected = !update && rng.chance(50);
-    let reading = reading_for(d, protected, rng);
-    let image = image_for(d, &reading, rng);
+    let mut reading = reading_for(d, protected, rng);
+    let mut image = image_for(d, &reading, rng);
+    if update {
+        // A row and the user IDs that fall only, or rise: with an erase and without, often in one stream.
+        let first = d.r() * rng.below(p / d.r());
+        for words in [first..first + d.r(), p..p + 4] {
+            if rng.chance(90) {
+                turn_words(&mut image[words.clone()], &mut reading[words], rng);
+            }
+        }
+    }
     let mut first = reading.clone();
     first.extend([rng.word(), rng.word()]);
     let mut end = if update {
@@ -101,7 +221,7 @@ fn plan(rng: &mut Rng) -> Plan {
         id_word.into()
     });
     fields.push(lent(room, rng).into());
-    let name = if update { "plan.update" } else { "plan.fresh" };
+    let name = if update { PLANNER } else { "plan.fresh" };
     let request = Request::new(name, fields);
     Plan {
         device,
@@ -111,6 +231,7 @@ fn plan(rng: &mut Rng) -> Plan {
         kept,
         spare,
         stream: Vec::new(),
+        begins: Vec::new(),
         after: Vec::new(),
     }
 }
@@ -266,6 +387,11 @@ fn unbroken(peer: &Peer, plans: &mut Vec<Plan>, rng: &mut Rng, tally: &mut Tally
     tally.check(ended.is_ok(), || ended.unwrap_err());
     for (plan, stream) in plans.iter_mut().zip(&streams) {
         plan.stream = stream.clone().unwrap_or_default();
+        plan.begins = if plan.request.call().name == PLANNER {
+            begins(&plan.stream)
+        } else {
+            vec![None; plan.stream.len() / 3]
+        };
         if rng.chance(30) {
             turn_spare_loads(&plan.device, &mut plan.stream, rng);
         }
@@ -302,22 +428,26 @@ fn cut_again(
     peer: &Peer,
     plans: &[Plan],
     torn: &mut [Torn],
+    met: &mut Met,
     rng: &mut Rng,
     tally: &mut Tally,
 ) -> usize {
     let waiting: Vec<usize> = (0..torn.len()).filter(|&i| torn[i].more > 0).collect();
     let mut requests = Vec::new();
+    let mut cut_at = Vec::new();
     for &i in &waiting {
         let plan = &plans[torn[i].plan];
         let step = later_step(plan, rng);
+        cut_at.push(step);
         for allowance in [step, step + 1] {
             requests.push(run(plan, &torn[i].cells, allowance, rng));
         }
     }
     let answers = runs(peer, &requests, tally);
-    for (&i, pair) in waiting.iter().zip(answers.chunks(2)) {
+    for ((&i, step), pair) in waiting.iter().zip(cut_at).zip(answers.chunks(2)) {
         torn[i].more -= 1;
         if let [Some((_, before)), Some((_, after))] = pair {
+            met.cut(&plans[torn[i].plan], step, before, after);
             let states = cut_states(before, after, rng);
             torn[i].cells = states[rng.below(states.len())].clone();
             check_cut(&plans[torn[i].plan], &torn[i].cells, tally);
@@ -327,11 +457,13 @@ fn cut_again(
 }
 
 /// The first cuts: each step of each stream, with several sets of bits.
-fn first_cuts(plans: &[Plan], rng: &mut Rng, tally: &mut Tally) -> Vec<Torn> {
+fn first_cuts(plans: &[Plan], met: &mut Met, rng: &mut Rng, tally: &mut Tally) -> Vec<Torn> {
     let mut torn = Vec::new();
     for (i, plan) in plans.iter().enumerate() {
-        for pair in plan.after.windows(2) {
+        met.stream(plan);
+        for (step, pair) in plan.after.windows(2).enumerate() {
             for cells in cut_states(&pair[0], &pair[1], rng) {
+                met.cut(plan, step, &pair[0], &pair[1]);
                 check_cut(plan, &cells, tally);
                 torn.push(Torn {
                     plan: i,
@@ -374,15 +506,16 @@ fn whole_runs(peer: &Peer, plans: &[Plan], torn: &[Torn], rng: &mut Rng, tally: 
 /// At least so many cut runs, whole streams at a time.
 pub fn check(peer: &Peer, wanted: usize, rng: &mut Rng, tally: &mut Tally) {
     let (mut cut_runs, mut cuts, mut streams, mut steps) = (0, 0, 0, 0);
+    let mut met = Met::default();
     // A command that answers nothing gives no runs to cut: its failures are counted, and that is the end.
     let mut idle = 0;
     while cut_runs < wanted && idle < 3 {
         let mut plans: Vec<Plan> = (0..TOGETHER).map(|_| plan(rng)).collect();
         unbroken(peer, &mut plans, rng, tally);
-        let mut torn = first_cuts(&plans, rng, tally);
+        let mut torn = first_cuts(&plans, &mut met, rng, tally);
         cuts += torn.len();
         for _ in 0..2 {
-            cuts += cut_again(peer, &plans, &mut torn, rng, tally);
+            cuts += cut_again(peer, &plans, &mut torn, &mut met, rng, tally);
         }
         whole_runs(peer, &plans, &torn, rng, tally);
         cut_runs += torn.len();
@@ -391,6 +524,7 @@ pub fn check(peer: &Peer, wanted: usize, rng: &mut Rng, tally: &mut Tally) {
         idle = if torn.is_empty() { idle + 1 } else { 0 };
     }
     println!("\n{cut_runs} cut runs with {cuts} cuts, at every one of {steps} steps of {streams} streams");
+    met.report(cut_runs, tally);
     tally.check(cut_runs >= wanted, || {
         format!("only {cut_runs} cut runs of {wanted}")
     });

@@ -55,6 +55,25 @@ fn requests() -> Vec<(Vec<u8>, Vec<u8>)> {
         pair("device.is_name -", "device.is_name 0"),
         pair(&format!("judge.checksum {TINY} -"), "judge.checksum 21 0"),
     ];
+    // The largest numbers of calls that judge nothing.
+    let most = "65535 65535 65535 65535 65535 65535";
+    for (name, rest) in [
+        ("plan.row_differs", "- - 65535"),
+        ("plan.row_rises", "- - 65535"),
+        ("plan.id_differs", "- -"),
+        ("plan.id_rises", "- -"),
+        ("plan.is_written", "- - 18446744073709551615 65535"),
+    ] {
+        let request = format!("{name} {most} {rest}");
+        lines.push(pair(&request, &format!("{name} 0")));
+    }
+    for (name, rest) in [
+        ("plan.update_refusal", "- -"),
+        ("plan.fresh_refusal", "- 65535"),
+    ] {
+        let request = format!("{name} {most} {rest}");
+        lines.push(pair(&request, &format!("{name} 13")));
+    }
     // As many bytes and words as a field may have.
     let bytes = "A7".repeat(BYTES_MAX);
     lines.push(pair(
@@ -196,6 +215,26 @@ fn malformed() -> Vec<Vec<u8>> {
         "print.sum 65536 -",
         "print.verdict 40 65536 0 -",
         "print.text -",
+        "plan.row_differs 10752 16 8 16127 16371 16383 - -",
+        "plan.row_differs 10752 16 8 16127 16371 16383 - - 65536",
+        "plan.row_differs 10752 16 8 16127 16371 16383 - - 0 0",
+        "plan.row_rises 10752 16 8 16127 16371 16383 - -",
+        "plan.row_rises 10752 16 8 16127 16371 16383 - - 65536",
+        "plan.row_rises 10752 16 8 16127 16371 16383 0 - 0",
+        "plan.id_differs 10752 16 8 16127 16371 16383 -",
+        "plan.id_differs 10752 16 8 16127 16371 16383 - - 0",
+        "plan.id_rises 10752 16 8 16127 16371 16383 -",
+        "plan.id_rises 10752 16 8 16127 16371 - -",
+        "plan.is_written 10752 16 8 16127 16371 16383 - - 0",
+        "plan.is_written 10752 16 8 16127 16371 16383 - - 0 65536",
+        "plan.is_written 10752 16 8 16127 16371 16383 - - 18446744073709551616 0",
+        "plan.is_written 10752 16 8 16127 16371 16383 - - 0 0 0",
+        "plan.update_refusal 10752 16 8 16127 16371 16383 -",
+        "plan.update_refusal 10752 16 8 16127 16371 16383 - - -",
+        "plan.fresh_refusal 10752 16 8 16127 16371 16383 -",
+        "plan.fresh_refusal 10752 16 8 16127 16371 16383 - 65536",
+        "plan.fresh_refusal 10752 16 8 16127 16371 16383 - -",
+        "plan.row_written 10752 16 8 16127 16371 16383 - - 0",
         "board.open_record -",
         "lent.third_line",
         "lent.third_line - -",

@@ -232,51 +232,67 @@ fn stream(steps: &[(u8, u16)]) -> Vec<u8> {
         .collect()
 }
 
-/// A blank board, and an image that gives other words everywhere: no program word is 3FFFh.
-fn all_different(d: &Device) -> (Vec<u16>, Vec<u16>) {
+/// A board of one word all through, but for its ID and its configuration words, and an image that gives other words everywhere: no
+/// program word is 0000h or 3FFFh.
+fn all_different(d: &Device, word: u16) -> (Vec<u16>, Vec<u16>) {
     let p = d.p();
-    let mut board = vec![0x3FFF; d.entries()];
-    board[p + 6] = d.id;
-    let mut image: Vec<u16> = (0..p).map(|a| (a % 0x3FFF) as u16).collect();
+    let mut board = vec![word; p + 4];
+    board.extend([0x3FFF, 0x3FFF, d.id, 0x3FFF, 0x3FFF]);
+    let mut image: Vec<u16> = (0..p).map(|a| (1 + a % 0x3FFE) as u16).collect();
     image.extend([0x0001, 0x0002, 0x0003, 0x0004]);
     image.extend([NOT_GIVEN; 3]);
     image.extend([0x0000, 0x0000]);
     (board, image)
 }
 
-/// The update of it: every row, both configuration words with their spare bits as read.
-fn update_case() -> Case {
+/// The updates of it: every row, both configuration words with their spare bits as read. From words of 0000h every row is erased, and
+/// the user IDs are; from words of 3FFFh none is.
+fn update_cases() -> [Case; 2] {
     let d = big(32_768, 8);
-    let (board, image) = all_different(&d);
-    let mut steps = vec![(0x16, 0)];
-    for (a, &word) in image[..d.p()].iter().enumerate() {
-        if a > 0 {
-            steps.push((0x06, 0));
+    let planned = |what: &str, word: u16, erase: bool, count: usize| {
+        let (board, image) = all_different(&d, word);
+        let mut steps = vec![(0x16, 0)];
+        for (a, &word) in image[..d.p()].iter().enumerate() {
+            if a > 0 {
+                steps.push((0x06, 0));
+            }
+            if erase && a % 8 == 0 {
+                steps.push((0x11, 0));
+            }
+            steps.push((0x02, 2 * word));
+            if a % 8 == 7 {
+                steps.push((0x08, 0));
+            }
         }
-        if a % 8 == 0 {
+        steps.push((0x00, 0x7FFE));
+        if erase {
             steps.push((0x11, 0));
         }
-        steps.push((0x02, 2 * word));
-        if a % 8 == 7 {
-            steps.push((0x08, 0));
+        for id in [0x0002, 0x0004, 0x0006] {
+            steps.extend([(0x02, id), (0x08, 0), (0x06, 0)]);
         }
-    }
-    steps.extend([(0x00, 0x7FFE), (0x11, 0)]);
-    for id in [0x0002, 0x0004, 0x0006] {
-        steps.extend([(0x02, id), (0x08, 0), (0x06, 0)]);
-    }
-    steps.extend([(0x02, 0x0008), (0x08, 0)]);
-    steps.extend([(0x06, 0); 4]);
-    steps.extend([(0x02, 2 * 0x0100), (0x08, 0), (0x06, 0)]);
-    steps.extend([(0x02, 2 * 0x000C), (0x08, 0)]);
-    filled(
-        "every word of the largest device updated, as many steps as there can be",
-        "plan.update",
-        &d,
-        vec![image.into(), board.into()],
-        73_750,
-        stream(&steps),
-    )
+        steps.extend([(0x02, 0x0008), (0x08, 0)]);
+        steps.extend([(0x06, 0); 4]);
+        steps.extend([(0x02, 2 * 0x0100), (0x08, 0), (0x06, 0)]);
+        steps.extend([(0x02, 2 * 0x000C), (0x08, 0)]);
+        let lists = vec![image.into(), board.into()];
+        filled(what, "plan.update", &d, lists, count, stream(&steps))
+    };
+    [
+        planned(
+            "every word of the largest device updated from 0000h, as many steps as there can be",
+            0x0000,
+            true,
+            73_750,
+        ),
+        // 4,096 rows and the user IDs have no erase.
+        planned(
+            "every word of the largest device updated from 3FFFh",
+            0x3FFF,
+            false,
+            69_653,
+        ),
+    ]
 }
 
 fn read_back_case() -> Case {
@@ -563,7 +579,8 @@ pub fn cases() -> Vec<Case> {
     let mut all = rule_cases();
     all.extend(across_cases());
     all.extend(length_cases());
-    all.extend([text_case(), update_case(), read_back_case()]);
+    all.extend([text_case(), read_back_case()]);
+    all.extend(update_cases());
     all.extend(sheet_cases());
     all.extend(step_cases());
     all.extend(judge_cases());

@@ -10,7 +10,7 @@ use crate::field::{line, Field, Kind, BYTES_MAX, HEX_BYTES_MAX, LINE_MAX, WORDS_
 use crate::hex::{self, PROGRAM_TEXT_MAX, TEXT_MAX};
 use crate::model::{INCREMENT, LATCHES, READ, RESET};
 use crate::sheet;
-use crate::streams::{read_back_stream, update_stream, wanted_over};
+use crate::streams::{read_back_stream, steps_bound, update_stream, wanted_over};
 use crate::tally::Tally;
 use crate::words::{NOT_GIVEN, WORD_MAX};
 
@@ -83,11 +83,14 @@ fn all_full() -> Vec<Request> {
     all
 }
 
-/// A blank board, and an image that gives other words everywhere.
+/// A board of zeros, its ID and configuration words apart, and an image that gives other words everywhere: each row and the user IDs
+/// are erased, so that no update is longer.
 fn all_different(d: &Device) -> (Vec<u16>, Vec<u16>) {
-    let mut board = vec![WORD_MAX; d.entries()];
-    board[d.p() + 6] = d.id;
-    let other: Vec<u16> = entries(d.entries()).iter().map(|w| w % WORD_MAX).collect();
+    let p = d.p();
+    let mut board = vec![0; p + 4];
+    board.extend([WORD_MAX, WORD_MAX, d.id, WORD_MAX, WORD_MAX]);
+    let mut other: Vec<u16> = (0..p + 7).map(|i| (1 + i % 0x3FFE) as u16).collect();
+    other.extend([1, 1]);
     (board, whole_image(d, &other))
 }
 
@@ -120,6 +123,13 @@ fn of_libraries() -> Vec<Request> {
     let moved = |name: &str, text: Vec<u8>| {
         let fields = vec![table.clone().into(), text.into(), out.clone().into()];
         Request::new(name, fields)
+    };
+    let of_board = |name| asked(name, d, vec![image.clone().into(), board.clone().into()]);
+    // The last one.
+    let of_row = |name| {
+        let k = d.words / d.row - 1;
+        let fields = vec![image.clone().into(), board.clone().into(), k.into()];
+        asked(name, d, fields)
     };
     let step = |name, code: u8| {
         let latches: Vec<u16> = vec![0x1234; LATCHES];
@@ -229,8 +239,28 @@ fn of_libraries() -> Vec<Request> {
         asked(
             "plan.wanted",
             d,
-            vec![image.into(), board.into(), (d.entries() - 1).into()],
+            vec![
+                image.clone().into(),
+                board.clone().into(),
+                (d.entries() - 1).into(),
+            ],
         ),
+        of_row("plan.row_differs"),
+        of_row("plan.row_rises"),
+        of_board("plan.id_differs"),
+        of_board("plan.id_rises"),
+        of_board("plan.update_refusal"),
+        asked(
+            "plan.is_written",
+            d,
+            vec![
+                image.clone().into(),
+                board.clone().into(),
+                8u64.into(),
+                1u16.into(),
+            ],
+        ),
+        asked("plan.fresh_refusal", d, vec![image.into(), d.id.into()]),
     ]
 }
 
@@ -298,10 +328,18 @@ fn of_programs() -> Vec<Request> {
 
 /// All of them are well formed, and answered as we do; those that are to be sound are not refused.
 pub fn check(peer: &Peer, tally: &mut Tally) {
+    for d in [&LARGEST, &OPENED] {
+        let (board, image) = all_different(d);
+        let steps = update_stream(d, &wanted_over(d, &image, &board), &board).len() / 3;
+        tally.check(steps == steps_bound(d), || {
+            format!("the longest update has {steps} steps: {d:?}")
+        });
+    }
     let sound = [of_libraries(), of_programs()].concat();
     for r in &sound {
         let number = r.own().class;
-        tally.check(matches!(number, 0 | 40), || {
+        let answered = r.call().classes == [0, 1];
+        tally.check(answered || matches!(number, 0 | 40), || {
             format!("{}: the largest is refused with {number}", r.call().name)
         });
     }

@@ -7,6 +7,8 @@ mod calls;
 mod columns;
 mod cuts;
 mod device;
+mod erases;
+mod fewest;
 mod field;
 mod form;
 mod gen;
@@ -28,7 +30,7 @@ mod words;
 mod worked;
 
 use ask::Peer;
-use calls::{Call, Request, CALLS, HEX_READER};
+use calls::{Call, Request, CALLS, HEX_READER, PLANNER};
 use gen::Manner;
 use rng::Rng;
 use std::process::ExitCode;
@@ -37,7 +39,7 @@ use tally::Tally;
 
 const USAGE: &str = "\
 outside [options] COMMAND [ARGS...]   hold COMMAND's answers against our own
-outside [options] --self              the worked cases, round trips and cuts on our own implementation
+outside [options] --self              the worked cases, round trips, the search and cuts on our own implementation
 outside --mock                        answer requests on standard input with our own implementation
 
   --seed N            the seed of all inputs
@@ -50,9 +52,10 @@ outside --mock                        answer requests on standard input with our
 /// Inputs aimed at each number of each call: above the hundred that must be seen, since an aim can miss.
 const AIMED: usize = 125;
 /// Inputs aimed at some numbers. 1 of the HEX reader is long and cannot miss; of those that can stand at many columns of a line
-/// there are enough that most columns are met. Of tables there are enough that lines clash in every way, or nearly do, and
-/// of sheets that line 1 is malformed in every way.
-const AIMED_AT: [(&str, u32, usize); 9] = [
+/// there are enough that most columns are met. Of tables there are enough that lines clash in every way, or nearly do, of sheets
+/// that line 1 is malformed in every way, and of updates that rows and user IDs fall and rise in every way.
+const AIMED_AT: [(&str, u32, usize); 10] = [
+    (PLANNER, 0, 750),
     (HEX_READER, 1, 100),
     (HEX_READER, 2, 2_500),
     (HEX_READER, 7, 1_000),
@@ -240,6 +243,9 @@ fn main() -> ExitCode {
         columns::check(&peer, &mut tally);
     }
     worked::round_trips(&mut Rng::new(o.seed ^ 1), &mut tally);
+    if PLANNER.starts_with(&o.only) {
+        fewest::check(&mut Rng::new(o.seed ^ 3), &mut tally);
+    }
     if !o.own && !peer.hung() {
         compare_all(&o, &peer, &mut tally);
         tally.report(&|name| name.starts_with(&o.only));

@@ -100,7 +100,7 @@ fn row_erase(d: &Device, counter: u16, cells: &mut [u16]) {
 }
 
 /// What a step does with sound cells: the word read if any, or 30, 31, 33, 35 and nothing changed.
-fn act(
+pub fn act(
     d: &Device,
     registers: &mut Registers,
     cells: &mut [u16],

@@ -1,7 +1,8 @@
 //! What was compared: how often it agreed, which numbers were seen, and the first few differences.
 
 use crate::board::OPENED_MAX;
-use crate::calls::{Request, CALLS, HEX_READER};
+use crate::calls::{Request, CALLS, HEX_READER, PLANNER};
+use crate::streams::wanted_over;
 use crate::tried;
 use std::collections::{BTreeMap, BTreeSet};
 
@@ -17,6 +18,9 @@ const COLUMN: usize = 2;
 /// How often each call that takes a record, or finds one to move a sheet by, must be asked about a sound one of more
 /// words than the programs take.
 const LARGE_AT_LEAST: u64 = 5;
+/// How many updates that are not refused must have each kind of row, and of user IDs: the words only fall, some rise, and just one bit
+/// rises.
+const TURNS_AT_LEAST: [u64; 6] = [100, 100, 50, 100, 100, 50];
 /// The longest part of a field that a message shows.
 const CUT: usize = 72;
 
@@ -27,6 +31,9 @@ pub struct Tally {
     seen: BTreeMap<(usize, u32), u64>,
     columns: BTreeMap<u32, BTreeSet<u64>>,
     large: BTreeMap<usize, u64>,
+    /// Of updates that are not refused: those with a row that only falls, with one that rises, with one of which just one bit rises, and
+    /// the same of the user IDs.
+    turns: [u64; 6],
 }
 
 /// A text cut to what a message can bear.
@@ -54,6 +61,7 @@ impl Tally {
             seen: BTreeMap::new(),
             columns: BTreeMap::new(),
             large: BTreeMap::new(),
+            turns: [0; 6],
         }
     }
 
@@ -83,6 +91,9 @@ impl Tally {
             let columns = self.columns.entry(own.class).or_default();
             columns.insert(crate::field::num(&own.fields, COLUMN));
         }
+        if name == PLANNER && own.class == 0 {
+            self.count_turns(request);
+        }
         let expected = crate::field::line(name, &own.fields);
         let same = answer == Some(expected.as_slice());
         if !same {
@@ -91,6 +102,31 @@ impl Tally {
         self.check(same, || difference(request, &expected, answer));
         if let Some(text) = request.table() {
             self.try_table(name, text, answer);
+        }
+    }
+
+    /// The kinds of rows and of user IDs that an update has, by how many bits rise in them.
+    fn count_turns(&mut self, request: &Request) {
+        let d = request.device().expect("a record");
+        let (image, reading) = request.lists();
+        let wanted = wanted_over(&d, image, reading);
+        let p = d.p();
+        let kinds = |from: usize, to: usize| {
+            let differs = wanted[from..to] != reading[from..to];
+            let risen: u32 = (from..to)
+                .map(|i| (wanted[i] & !reading[i]).count_ones())
+                .sum();
+            [differs && risen == 0, risen > 0, risen == 1]
+        };
+        let mut of_rows = [false; 3];
+        for first in (0..p).step_by(d.r()) {
+            for (seen, kind) in of_rows.iter_mut().zip(kinds(first, first + d.r())) {
+                *seen |= kind;
+            }
+        }
+        let all = of_rows.into_iter().chain(kinds(p, p + 4));
+        for (count, seen) in self.turns.iter_mut().zip(all) {
+            *count += u64::from(seen);
         }
     }
 
@@ -138,6 +174,9 @@ impl Tally {
             self.report_columns();
         }
         self.report_large(asked);
+        if asked(PLANNER) {
+            self.report_turns();
+        }
         if !self.failed_of.is_empty() {
             println!("\nanswers that differ, by call");
             for (name, count) in &self.failed_of {
@@ -158,6 +197,20 @@ impl Tally {
         for (number, least, count) in counts {
             self.check(count >= least, || {
                 format!("{HEX_READER} gave {number} at only {count} different columns")
+            });
+        }
+    }
+
+    /// How many updates had each kind of row and of user IDs; too few are a failure.
+    fn report_turns(&mut self) {
+        let [falls, rises, one, id_falls, id_rises, id_one] = self.turns;
+        println!(
+            "updates with a row that only falls {falls}, that rises {rises}, in one bit {one}; \
+             with IDs that only fall {id_falls}, that rise {id_rises}, in one bit {id_one}"
+        );
+        for (count, least) in self.turns.into_iter().zip(TURNS_AT_LEAST) {
+            self.check(count >= least, || {
+                format!("{PLANNER} had a kind of row or IDs only {count} times")
             });
         }
     }

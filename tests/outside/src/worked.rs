@@ -11,7 +11,9 @@ use crate::rng::Rng;
 use crate::sheet::Form;
 use crate::tally::{cut, difference, Tally};
 use crate::words::{NOT_GIVEN, WORD_MAX};
-use crate::{bench, device, hex, judge, large, masked, moved, sheet, streams};
+use crate::{bench, device, erases, hex, judge, large, masked, moved, sheet, streams};
+use std::iter::once;
+use std::ops::Range;
 
 pub const TINY: Device = Device {
     id: 0x2A00,
@@ -216,40 +218,6 @@ fn checksum_cases() -> Vec<Case> {
     ]
 }
 
-/// The stream of an update of TINY's row, in full.
-fn row_case(row: usize) -> Case {
-    let board = reading(&TINY, WORD_MAX, &[(16 + 5, 0x2000), (16 + 6, 0x2A00)]);
-    let mut image = vec![NOT_GIVEN; TINY.entries()];
-    image[8 * row + 3] = 0x0155;
-    let mut stream = vec![0x16, 0, 0];
-    for _ in 0..8 * row {
-        stream.extend([0x06, 0, 0]);
-    }
-    stream.extend([0x11, 0, 0]);
-    for k in 0..8 {
-        stream.extend(if k == 3 {
-            [0x02, 0xAA, 0x02]
-        } else {
-            [0x02, 0xFE, 0x7F]
-        });
-        if k < 7 {
-            stream.extend([0x06, 0, 0]);
-        }
-    }
-    stream.extend([0x08, 0, 0]);
-    let steps: u32 = if row == 0 { 18 } else { 26 };
-    let lent: Vec<u8> = (0..100u8).collect();
-    let mut out = lent.clone();
-    out[..stream.len()].copy_from_slice(&stream);
-    case(
-        &format!("only row {row}"),
-        "plan.update",
-        Some(&TINY),
-        vec![image.into(), board.into(), lent.into()],
-        vec![number(0), number(steps), out.into()],
-    )
-}
-
 /// Loads at 0002h to 0009h, Begin at 0009h: the row of the counter is written, with what lay in each latch.
 fn latch_case() -> Case {
     let cells = vec![WORD_MAX; TINY.cells()];
@@ -291,7 +259,7 @@ fn latch_case() -> Case {
 }
 
 /// TINY's blank board, but for some words.
-fn tiny_board(others: &[(usize, u16)]) -> Vec<u16> {
+pub fn tiny_board(others: &[(usize, u16)]) -> Vec<u16> {
     let mut board = reading(&TINY, WORD_MAX, &[(16 + 5, 0x2000), (16 + 6, 0x2A00)]);
     for &(entry, word) in others {
         board[entry] = word;
@@ -718,8 +686,9 @@ fn cases() -> Vec<Case> {
     let mut all = hex_cases();
     all.extend(column_cases());
     all.extend(checksum_cases());
-    all.extend([row_case(0), row_case(1), latch_case()]);
+    all.push(latch_case());
     all.extend(spare_cases());
+    all.extend(erases::cases());
     all.extend(bench_cases());
     all.extend(large::cases());
     all.extend(masked::cases());
@@ -929,6 +898,7 @@ fn update_trip(d: &Device, board: &[u16], image: &[u16], tally: &mut Tally) {
     tally.check(after == end, || {
         format!("an update does not end in what is wanted: {d:?}")
     });
+    no_erase_too_many(d, &cells, &end, &stream, tally);
     let unprotected = !d.protected(&after);
     // A good board verifies against what the file says, all 14 bits of it.
     let said: Vec<u16> = (0..d.entries())
@@ -955,6 +925,33 @@ fn update_trip(d: &Device, board: &[u16], image: &[u16], tally: &mut Tally) {
         && (words[..d.p()] == wanted[..d.p()])
             == (unprotected || wanted[..d.p()].iter().all(|&w| w == 0));
     tally.check(same, || format!("a read-back is not the board: {d:?}"));
+}
+
+/// The erases of an update: one for each row, and one for the user IDs, that no write alone takes to what is wanted; and with any one
+/// of them left out the stream ends elsewhere.
+fn no_erase_too_many(d: &Device, cells: &[u16], end: &[u16], stream: &[u8], tally: &mut Tally) {
+    let p = d.p();
+    // A write leaves of a word what it has in common with the loaded one.
+    let short = |of: &Range<usize>| of.clone().any(|i| cells[i] & end[i] != end[i]);
+    let rows = (0..p).step_by(d.r()).map(|first| first..first + d.r());
+    let needed = rows.chain(once(p..p + 4)).filter(short).count();
+    let erases: Vec<usize> = (0..stream.len() / 3)
+        .filter(|k| stream[3 * k] == model::ROW_ERASE)
+        .collect();
+    tally.check(erases.len() == needed, || {
+        format!("{} erases, and {needed} are needed: {d:?}", erases.len())
+    });
+    // Of many some will do, the first and the last among them.
+    let every = erases.len() / 6 + 1;
+    let last = erases.last().copied();
+    for k in erases.iter().copied().step_by(every).chain(last) {
+        let mut fewer = stream.to_vec();
+        fewer.drain(3 * k..3 * k + 3);
+        let (after, _) = played(d, cells, &fewer, tally);
+        tally.check(after != end, || {
+            format!("an erase that can be left out: {d:?}")
+        });
+    }
 }
 
 fn fresh_trip(d: &Device, image: &[u16], rng: &mut Rng, tally: &mut Tally) {

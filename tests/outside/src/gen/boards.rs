@@ -56,7 +56,7 @@ pub fn fitting(d: &Device, rng: &mut Rng) -> u16 {
 }
 
 /// A bit of a mask of words; 0 where it has none.
-fn one_bit(mask: u16, rng: &mut Rng) -> u16 {
+pub fn one_bit(mask: u16, rng: &mut Rng) -> u16 {
     let bits: Vec<u16> = (0..14)
         .map(|k| 1 << k)
         .filter(|bit| mask & bit != 0)
@@ -181,15 +181,25 @@ pub fn unlawful(d: &Device, rng: &mut Rng) -> Device {
     bad
 }
 
-/// A reading of the device, its word 8006h one that fits, protected or not.
+/// A reading of the device, its word 8006h one that fits, protected or not: blank or nearly, of any words, or of words with
+/// few zeros or with many; at times each eight words in their own way.
 pub fn reading_for(d: &Device, protected: bool, rng: &mut Rng) -> Vec<u16> {
     let p = d.p();
-    let blank = rng.below(4);
+    let mixed = rng.chance(25);
+    let mut kind = rng.below(7);
     let mut reading: Vec<u16> = (0..d.entries())
-        .map(|_| match blank {
-            0 => WORD_MAX,
-            1 if rng.chance(80) => WORD_MAX,
-            _ => rng.word(),
+        .map(|i| {
+            if mixed && i % 8 == 0 {
+                kind = rng.below(7);
+            }
+            match kind {
+                0 => WORD_MAX,
+                1 if rng.chance(80) => WORD_MAX,
+                2 => rng.word() | rng.word() | rng.word(),
+                3 => rng.word() & rng.word() & rng.word(),
+                4 if rng.chance(80) => 0,
+                _ => rng.word(),
+            }
         })
         .collect();
     reading[p + 6] = fitting(d, rng);
@@ -201,34 +211,108 @@ pub fn reading_for(d: &Device, protected: bool, rng: &mut Rng) -> Vec<u16> {
     reading
 }
 
-/// An image over a reading: silent, sparse or full; given words often the reading's own.
+/// How the given words of a row, or the user IDs, turn from those that are read.
+#[derive(Clone, Copy, Debug, PartialEq, Eq)]
+pub enum Turn {
+    /// In any way.
+    Any,
+    /// Not at all.
+    Same,
+    /// Ones go to 0 and no bit goes to 1.
+    Fall,
+    /// The same in one bit of one word.
+    FallOnce,
+    /// Zeros go to 1.
+    Rise,
+    /// All fall but one, the first, the last or any, which rises in one bit; it may fall in others.
+    RiseOnce,
+}
+
+impl Turn {
+    fn some(rng: &mut Rng) -> Turn {
+        rng.pick(&[
+            Turn::Any,
+            Turn::Any,
+            Turn::Same,
+            Turn::Fall,
+            Turn::Fall,
+            Turn::FallOnce,
+            Turn::Rise,
+            Turn::RiseOnce,
+            Turn::RiseOnce,
+        ])
+    }
+}
+
+/// A word that falls from another in one bit; the same where that has none.
+pub fn fallen(word: u16, rng: &mut Rng) -> u16 {
+    word & !one_bit(word, rng)
+}
+
+/// A word that rises from another in one bit, and at times falls in others; the same where that has all.
+fn risen(word: u16, rng: &mut Rng) -> u16 {
+    let kept = if rng.chance(30) { rng.word() } else { WORD_MAX };
+    match one_bit(WORD_MAX & !word, rng) {
+        0 => word,
+        bit => (word & kept) | bit,
+    }
+}
+
+/// A place of a list, often its first or its last.
+pub fn place_of(length: usize, rng: &mut Rng) -> usize {
+    let any = rng.below(length);
+    rng.pick(&[0, length - 1, any, any])
+}
+
+/// New entries for these words, as they turn: so many of a hundred are given, and so many of those are as read.
+pub fn turned(old: &[u16], turn: Turn, given: usize, same: usize, rng: &mut Rng) -> Vec<u16> {
+    let once = matches!(turn, Turn::FallOnce | Turn::RiseOnce) && rng.chance(given.max(30));
+    let mut new: Vec<u16> = old
+        .iter()
+        .map(|&w| match turn {
+            _ if !rng.chance(given) => NOT_GIVEN,
+            Turn::Same | Turn::FallOnce => w,
+            _ if rng.chance(same) => w,
+            Turn::Any if rng.chance(20) => WORD_MAX,
+            Turn::Any => rng.word(),
+            Turn::Rise => w | rng.word(),
+            Turn::Fall | Turn::RiseOnce if rng.chance(50) => fallen(w, rng),
+            Turn::Fall | Turn::RiseOnce => w & rng.word(),
+        })
+        .collect();
+    if once && given > 0 {
+        let at = place_of(old.len(), rng);
+        new[at] = match turn {
+            Turn::FallOnce => fallen(old[at], rng),
+            _ => risen(old[at], rng),
+        };
+    }
+    new
+}
+
+/// An image over a reading: silent, sparse or full; given words often the reading's own. Rows and user IDs turn all in one way,
+/// or each in its own.
 pub fn image_for(d: &Device, reading: &[u16], rng: &mut Rng) -> Vec<u16> {
     let p = d.p();
     let given = rng.pick(&[0, 2, 20, 60, 100]);
     let same = rng.pick(&[0, 50, 95]);
-    let mut image: Vec<u16> = reading
-        .iter()
-        .map(|&r| match () {
-            () if !rng.chance(given) => NOT_GIVEN,
-            () if rng.chance(same) => r,
-            () if rng.chance(20) => WORD_MAX,
-            () => rng.word(),
-        })
-        .collect();
+    let all = rng.chance(40).then(|| Turn::some(rng));
+    let mut image = Vec::new();
+    for old in reading[..p].chunks(d.r()).chain([&reading[p..p + 4]]) {
+        let turn = all.unwrap_or_else(|| Turn::some(rng));
+        image.extend(turned(old, turn, given, same, rng));
+    }
+    image.resize(d.entries(), NOT_GIVEN);
     // Configuration words that an update may want: under the mask no bit set that the reading has not, and spare bits as they come.
     for i in [p + 7, p + 8] {
         let spare = d.spare(i);
         let kept = match rng.below(6) {
-            0 => {
-                image[i] = NOT_GIVEN;
-                continue;
-            }
+            0 => continue,
             1 | 2 => reading[i],
             _ => reading[i] & rng.word(),
         };
         image[i] = (kept & !spare) | (spare_bits(reading[i], rng) & spare);
     }
-    image[p + 4..p + 7].fill(NOT_GIVEN);
     image
 }
 

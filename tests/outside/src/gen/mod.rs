@@ -13,7 +13,9 @@ use crate::rng::Rng;
 use crate::sheet::Form;
 use boards::any_device;
 
-pub use boards::{device_of_size, fitting, image_for, large_device, name, reading_for, with_id};
+pub use boards::{
+    device_of_size, fitting, image_for, large_device, name, reading_for, turned, with_id, Turn,
+};
 
 /// How an input is made.
 #[derive(Clone, Copy, Debug)]

@@ -1,13 +1,13 @@
 //! Inputs for the model and for the planners.
 
 use super::boards::{
-    also, choosy, fitting, image_for, no_word, other_word, reading_for, record, spoil_image,
-    spoil_words,
+    also, choosy, fallen, fitting, image_for, no_word, one_bit, other_word, place_of, reading_for,
+    record, spoil_image, spoil_words,
 };
 use super::{lent, lent_words, number, room};
 use crate::board::OPENED_MAX;
 use crate::device::{Device, CP};
-use crate::field::Field;
+use crate::field::{Field, WORDS_MAX};
 use crate::model::{
     BEGIN, BULK_ERASE, INCREMENT, LOAD_CONFIGURATION, LOAD_DATA, READ, RESET, ROW_ERASE,
 };
@@ -468,11 +468,232 @@ fn wanted(aim: u32, mut d: Device, rng: &mut Rng) -> Vec<Field> {
     fields
 }
 
+/// Turns an entry so that it is wanted other than it is known: it falls in a bit, or rises in one. Nothing is judged, so the bit
+/// may stand above the 14, and must where the reading has ended and 3FFFh is known.
+fn turn_entry(
+    d: &Device,
+    image: &mut [u16],
+    reading: &mut [u16],
+    i: usize,
+    up: bool,
+    rng: &mut Rng,
+) {
+    let mask = d.mask(i) & WORD_MAX;
+    let high = rng.pick(&[0x4000, 0x8000]);
+    let Some(known) = reading.get_mut(i) else {
+        image[i] = if up {
+            WORD_MAX | high
+        } else {
+            fallen(WORD_MAX, rng)
+        };
+        return;
+    };
+    let bit = match one_bit(mask, rng) {
+        0 => high,
+        _ if rng.chance(10) => high,
+        bit => bit,
+    };
+    let more = if rng.chance(30) { rng.word() } else { WORD_MAX };
+    if up {
+        *known &= !bit;
+        image[i] = (*known & more) | bit;
+    } else {
+        *known |= bit;
+        image[i] = *known & more & !bit;
+    }
+    // What is not given cannot differ: the entry loses another bit.
+    if image[i] == NOT_GIVEN {
+        image[i] = 0xFFFE;
+    }
+}
+
+/// What an update asks of entries: none of them differs; or some differ, which all fall, or of which one rises at least.
+fn ask_entries(
+    d: &Device,
+    image: &mut [u16],
+    reading: &mut [u16],
+    entries: &[usize],
+    differs: bool,
+    rises: bool,
+    rng: &mut Rng,
+) {
+    for &i in entries {
+        image[i] = if rng.chance(50) {
+            NOT_GIVEN
+        } else {
+            reading.get(i).copied().unwrap_or(WORD_MAX)
+        };
+        // Spare bits alone: no difference.
+        if d.spare(i) != 0 && image[i] != NOT_GIVEN && rng.chance(50) {
+            image[i] ^= d.spare(i) & rng.word();
+        }
+    }
+    if !differs || entries.is_empty() {
+        return;
+    }
+    if !rises || rng.chance(60) {
+        for _ in 0..rng.pick(&[1, 1, 2, entries.len()]) {
+            let i = entries[place_of(entries.len(), rng)];
+            turn_entry(d, image, reading, i, false, rng);
+        }
+    }
+    if rises {
+        for _ in 0..rng.pick(&[1, 1, 1, 2, entries.len()]) {
+            let i = entries[place_of(entries.len(), rng)];
+            turn_entry(d, image, reading, i, true, rng);
+        }
+    }
+}
+
+/// A row that has entries in a list of this length, most often one of the device; now and then the one or two behind them,
+/// which have the IDs and the configuration words.
+fn some_row(d: &Device, length: usize, rng: &mut Rng) -> u16 {
+    let r = d.r().max(1);
+    let (all, program) = (length.div_ceil(r), d.p() / r);
+    let k = match rng.below(8) {
+        0 => 0,
+        1 => program.saturating_sub(1),
+        2 => program,
+        3 => program + 1,
+        _ => rng.below(all.max(1)),
+    };
+    k.min(all.saturating_sub(1)) as u16
+}
+
+/// Rows and user IDs of which some word differs, or rises, or none. Nothing is judged: the record may have any P and R, the lists
+/// any length and any numbers, and the row may stand anywhere.
+fn asks(name: &str, yes: bool, mut d: Device, rng: &mut Rng) -> Vec<Field> {
+    let mut reading = reading_for(&d, rng.chance(30), rng);
+    let mut image = image_for(&d, &reading, rng);
+    // A large record is to stay one.
+    let small = d.words <= OPENED_MAX;
+    if small && rng.chance(30) {
+        let any = rng.u16();
+        d.row = rng.pick(&[0, 1, 2, 3, 5, 7, 9, 24, 33, 64, 256, 0x8000, 65_535, any]);
+    }
+    if small && rng.chance(25) {
+        let any = rng.below(image.len()) as u16;
+        let far = rng.u16();
+        let far = rng.pick(&[any, any, any, far, 65_535]);
+        d.words = rng.pick(&[0, d.words - 1, d.words + 1, any, any, far]);
+    }
+    if small && rng.chance(30) {
+        (d.mask1, d.mask2) = (rng.u16(), rng.u16());
+    }
+    if rng.chance(20) {
+        image.extend(rng.entries(4));
+        reading.extend(rng.entries(3));
+    }
+    if rng.chance(20) {
+        reading.truncate(rng.below(reading.len() + 1));
+    }
+    if rng.chance(20) {
+        image.truncate(rng.below(image.len() + 1));
+    }
+    let of_ids = name.starts_with("id_");
+    let mut k = some_row(&d, image.len(), rng);
+    if yes && !of_ids && d.row == 0 {
+        // A row of no words never differs.
+        d.row = rng.pick(&[1, 2, 8, 65_535]);
+        k = some_row(&d, image.len(), rng);
+    }
+    let first = if of_ids {
+        d.p()
+    } else {
+        usize::from(k) * d.r()
+    };
+    let count = if of_ids { 4 } else { d.r() };
+    if yes && image.len() <= first {
+        let length = first + rng.between(1, 4);
+        image.resize(length.min(WORDS_MAX), NOT_GIVEN);
+    }
+    let end = image.len().min(first + count);
+    let entries: Vec<usize> = (first.min(end)..end).collect();
+    let rising = name.ends_with("rises");
+    let (differs, rises) = match (yes, rising) {
+        (true, true) => (true, true),
+        (true, false) => (true, rng.chance(40)),
+        (false, true) => (rng.chance(75), false),
+        (false, false) => (false, false),
+    };
+    ask_entries(&d, &mut image, &mut reading, &entries, differs, rises, rng);
+    if !yes && !of_ids && rng.chance(25) {
+        // Far away, or a row that is another's after 16 bits: a product that wraps would tell of that one.
+        let again = 65_536 / usize::from(d.row.max(1)) + usize::from(k);
+        let any = rng.u16();
+        k = rng.pick(&[any, 65_535, again as u16, again as u16]);
+    }
+    let mut fields = record(&d, 0, rng);
+    fields.extend([image.into(), reading.into()]);
+    if !of_ids {
+        fields.push(k.into());
+    }
+    fields
+}
+
+/// Words of configuration space that are written, or not: an ID for all of them or for its own sake, a configuration word, and
+/// what is never written however it differs.
+fn written(yes: bool, mut d: Device, rng: &mut Rng) -> Vec<Field> {
+    let mut reading = reading_for(&d, rng.chance(30), rng);
+    let mut image = image_for(&d, &reading, rng);
+    let small = d.words <= OPENED_MAX;
+    if small && rng.chance(20) {
+        let any = rng.below(image.len()) as u16;
+        d.words = rng.pick(&[0, d.words - 1, d.words + 1, any]);
+    }
+    if small && rng.chance(30) {
+        (d.mask1, d.mask2) = (rng.u16(), rng.u16());
+    }
+    let yes_all = rng.pick(&[1, 1, 2, 255, 256, 0x8000, 65_535]);
+    let ids = rng.below(4) as u64;
+    let configuration = rng.pick(&[7, 8]);
+    let (k, all, differs) = match (yes, rng.below(6)) {
+        (true, 0 | 1) => (ids, yes_all, rng.chance(50)),
+        (true, 2 | 3) => (ids, 0, true),
+        (true, _) => (configuration, rng.pick(&[0, yes_all]), true),
+        (false, 0 | 1) => (ids, 0, false),
+        (false, 2) => (configuration, rng.pick(&[0, yes_all]), false),
+        (false, 3) => (rng.pick(&[4, 5, 6, 9, 10]), yes_all, true),
+        // An ID or a configuration word again after 16, 32 or 64 bits, or far away.
+        (false, 4) => {
+            let again = (1 << rng.pick(&[8, 16, 32, 63])) + rng.pick(&[ids, configuration]);
+            let around = 0u64.wrapping_sub(u64::from(d.words)).max(9);
+            (rng.pick(&[again, again, around]), yes_all, rng.chance(50))
+        }
+        (false, _) => (number(64, rng).max(9), yes_all, rng.chance(50)),
+    };
+    let at = d.p() as u64 + k.min(10);
+    if differs && image.len() as u64 <= at {
+        image.resize(at as usize + 1, NOT_GIVEN);
+    }
+    if (at as usize) < image.len() {
+        let up = rng.chance(50);
+        let entries = [at as usize];
+        ask_entries(&d, &mut image, &mut reading, &entries, differs, up, rng);
+    }
+    if rng.chance(15) {
+        reading.truncate(rng.below(reading.len() + 1));
+    }
+    let mut fields = record(&d, 0, rng);
+    fields.extend([image.into(), reading.into(), k.into(), Field::Num(all)]);
+    fields
+}
+
+/// What is asked of a stream without the buffer for it.
+fn without_room(mut fields: Vec<Field>) -> Vec<Field> {
+    fields.pop();
+    fields
+}
+
 pub fn plan(name: &str, aim: u32, d: Device, rng: &mut Rng) -> Vec<Field> {
     match name {
         "update" => update(aim, d, rng),
         "fresh" => fresh(aim, d, rng),
         "wanted" => wanted(aim, d, rng),
+        "row_differs" | "row_rises" | "id_differs" | "id_rises" => asks(name, aim == 1, d, rng),
+        "is_written" => written(aim == 1, d, rng),
+        "update_refusal" => without_room(update(aim, d, rng)),
+        "fresh_refusal" => without_room(fresh(aim, d, rng)),
         _ => {
             let needed = own::read_back_stream(&d).len();
             let short = aim == 26 || also(aim, &[13], rng);

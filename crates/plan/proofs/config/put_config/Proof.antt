@@ -8,7 +8,7 @@ use Rattle.plan.proofs.config.put_config.Statement.{statement}
 use Rattle.plan.proofs.config.put_config.Tie as tie
 
 some-written-requires : tie.Need-some-written-requires
-some-written-requires c κs = c .before .before .before .pre .1 .0
+some-written-requires c κs = search needs
 
 returns : tie.Need-returns
 returns c = wrote-same _ _ _ _ _ _ (sym (config-no _ _ _ _ (sym (c .before .some-written .ensures) ∙ c .if1 .left))) (wrote-none _ _)
@@ -17,26 +17,21 @@ put-order-requires : tie.Need-put-order-requires
 put-order-requires c κs = (
   omega arith,
   room-first _ _ _ _ _ (config-yes _ _ _ _ (sym (c .before .before .some-written .ensures) ∙ c .before .if1 .taken))
-      (c .before .before .before .before .before .before .pre .1 .1),
+      (c .before .before .before .before .before .before .pre .1),
 )
 
 put-erase-requires : tie.Need-put-erase-requires
 put-erase-requires c κs = room-part _ _ _ _ _ _ _ (left-then _ _ _ _ _ _ _ _ _
     (left-same _ _ _ _ _ _ _ (config-yes _ _ _ _ (sym (c .before .before .before .before .before .before .some-written .ensures)
     ∙ c .before .before .before .before .before .if1 .taken)) (left-all _ _ _)) (c .before .before .before .put-order .ensures))
-    (c .before .before .before .before .before .before .before .before .before .before .pre .1 .1)
+    (c .before .before .before .before .before .before .before .before .before .before .pre .1)
 
 put-writes-requires : tie.Need-put-writes-requires
 put-writes-requires c κs = let a = left-then _ _ _ _ _ _ _ _ _
     (left-same _ _ _ _ _ _ _ (config-yes _ _ _ _ (sym (c .before .before .before .before .before .before .before .before .before .before .some-written .ensures)
     ∙ c .before .before .before .before .before .before .before .before .before .if1 .taken)) (left-all _ _ _)) (c .before .before .before .before .before .before .before .put-order .ensures) in (
-      c .before .before .before .before .before .before .before .before .before .before .before .before .before .before .pre .0,
-      (
-        c .before .before .before .before .before .before .before .before .before .before .before .before .before .before .pre .1 .0,
-        room-rest _ _ _ _ _ _
-            (left-then _ _ _ _ _ _ _ _ _ a (c .before .before .before .put-erase .ensures))
-            (c .before .before .before .before .before .before .before .before .before .before .before .before .before .before .pre .1 .1),
-      ),
+      (c .before .before .before .before .before .before .before .before .before .before .before .before .before .before .pre .0),
+      room-rest _ _ _ _ _ _ (left-then _ _ _ _ _ _ _ _ _ a (c .before .before .before .put-erase .ensures)) (c .before .before .before .before .before .before .before .before .before .before .before .before .before .before .pre .1),
     )
 
 same-length : tie.Need-same-length

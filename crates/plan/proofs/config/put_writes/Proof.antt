@@ -4,7 +4,7 @@ use native.Mathlib.Omega.{arith}
 use mathlib.Core.Path.{_≡_, refl, sym, _∙_}
 use lib.ListN.{length}
 use Rattle.target.specs.Chip.{chipOf}
-use Rattle.plan.specs.Wanted.{known, wanted, configWrites}
+use Rattle.aim.specs.Wanted.{known, wanted, configWrites}
 use Rattle.plan.specs.Steps.{writesFrom}
 use Rattle.plan.specs.LawsPlanSteps.{writes-yes, writes-no, writes-none, word-same}
 use Rattle.plan.specs.LawsPlanWrote.{Left, left-all, left-same, left-then, left-none, room-part, room-same, wrote-same}
@@ -27,27 +27,27 @@ add-k : tie.Need-add-k Inv-loop μ-loop
 add-k c = omega arith
 
 is-written-requires : tie.Need-is-written-requires Inv-loop μ-loop
-is-written-requires c κs = c .before .before .before .before .before .pre .1 .0
+is-written-requires c κs = search needs
 
-cast-wanted-word : tie.Need-cast-wanted-word Inv-loop μ-loop
-cast-wanted-word c = search needs
+cast-wanted : tie.Need-cast-wanted Inv-loop μ-loop
+cast-wanted c = search needs
 
-add-wanted-word : tie.Need-add-wanted-word Inv-loop μ-loop
-add-wanted-word c = omega arith
+add-wanted : tie.Need-add-wanted Inv-loop μ-loop
+add-wanted c = omega arith
 
-wanted-word-requires : tie.Need-wanted-word-requires Inv-loop μ-loop
-wanted-word-requires c κs = omega arith
+wanted-requires : tie.Need-wanted-requires Inv-loop μ-loop
+wanted-requires c κs = search needs
 
 put-word-requires : tie.Need-put-word-requires Inv-loop μ-loop
 put-word-requires c κs = (
-  rw (c .before .wanted-word .ensures)
+  rw (c .before .wanted .ensures)
       (c .before .before .before .before .before .before .before .before .before .before .pre .0 .fits _),
   room-same _ _ _ _
-      (word-same _ _ _ _ (sym (c .before .wanted-word .ensures)))
+      (word-same _ _ _ _ (sym (c .before .wanted .ensures)))
       (room-part _ _ _ _ _ _ _ (left-same _ _ _ _ _ _ _
       (writes-yes _ _ _ _ _ (c .before .before .before .before .before .loop-test .taken)
       (sym (c .before .before .before .before .is-written .ensures) ∙ c .before .before .before .if1 .taken))
-      (c .before .before .before .before .before .before .loop .inv .2)) (c .before .before .before .before .before .before .before .before .before .before .pre .1 .1)),
+      (c .before .before .before .before .before .before .loop .inv .2)) (c .before .before .before .before .before .before .before .before .before .before .pre .1)),
 )
 
 loop-less : tie.Need-loop-less Inv-loop μ-loop
@@ -61,7 +61,7 @@ loop-again c = (
       (left-same _ _ _ _ _ _ _ (writes-yes _ _ _ _ _ (c .before .before .before .before .before .before .before .before .loop-test .taken)
       (sym (c .before .before .before .before .before .before .before .is-written .ensures) ∙ c .before .before .before .before .before .before .if1 .taken))
       (c .before .before .before .before .before .before .before .before .before .loop .inv .2))
-      (wrote-same _ _ _ _ _ _ (word-same _ _ _ _ (c .before .before .before .before .wanted-word .ensures)) (c .before .before .put-word .ensures)),
+      (wrote-same _ _ _ _ _ _ (word-same _ _ _ _ (c .before .before .before .before .wanted .ensures)) (c .before .before .put-word .ensures)),
 )
 
 loop-less-2 : tie.Need-loop-less-2 Inv-loop μ-loop
@@ -90,9 +90,9 @@ put-writes-spec =
     loop-holds
     add-k
     is-written-requires
-    cast-wanted-word
-    add-wanted-word
-    wanted-word-requires
+    cast-wanted
+    add-wanted
+    wanted-requires
     put-word-requires
     loop-less
     loop-again

@@ -4,8 +4,8 @@ use native.Mathlib.Omega.{arith}
 use mathlib.Core.Bool.{false}
 use mathlib.Core.Path.{_≡_, sym, ap, _∙_}
 use Rattle.target.specs.Chip.{chipOf}
-use Rattle.plan.specs.Wanted.{known, wanted, some, configWrites}
-use Rattle.plan.specs.LawsSome.{some-zero, some-more, some-here}
+use Rattle.aim.specs.Wanted.{known, wanted, some, configWrites}
+use Rattle.aim.specs.LawsSome.{some-zero, some-more, some-here}
 use borrow.Author.Needs.{needs}
 use Rattle.plan.proofs.config.some_written.Statement.{statement}
 use Rattle.plan.proofs.config.some_written.Tie as tie

@@ -4,6 +4,9 @@ use borrow.Author.Needs.{needs}
 use Rattle.plan.proofs.count.update_length.Statement.{statement}
 use Rattle.plan.proofs.count.update_length.Tie as tie
 
+id-rises-requires : tie.Need-id-rises-requires
+id-rises-requires c κs = search needs
+
 id-differs-requires : tie.Need-id-differs-requires
 id-differs-requires c κs = search needs
 
@@ -17,4 +20,4 @@ returns : tie.Need-returns
 returns c = search (update-counted, needs)
 
 pub update-length-spec : {M : Type 1} → statement M
-update-length-spec = tie.close (tie.spec id-differs-requires body-length-requires add-result returns)
+update-length-spec = tie.close (tie.spec id-rises-requires id-differs-requires body-length-requires add-result returns)

@@ -3,7 +3,7 @@ use Prim.Native.Nat.{_+_, _-_, _≤_}
 use native.Mathlib.Omega.{arith}
 use mathlib.Core.Path.{sym, _∙_}
 use Rattle.target.specs.Chip.{chipOf}
-use Rattle.plan.specs.Wanted.{known, wanted, configWrites}
+use Rattle.aim.specs.Wanted.{known, wanted, configWrites}
 use Rattle.plan.specs.Steps.{writesFrom}
 use Rattle.plan.specs.LawsPlanSteps.{writes-no, writes-none}
 use Rattle.plan.specs.LawsPlanBounds.{writes-few}

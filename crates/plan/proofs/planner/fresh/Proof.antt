@@ -3,8 +3,8 @@ use native.Mathlib.Omega.{arith}
 use mathlib.Core.Path.{sym, _∙_}
 use Rattle.device.specs.LawsRecord.{rules}
 use Rattle.plan.specs.LawsPlan.{plans-refused, plans-short, plans-done}
-use Rattle.plan.specs.LawsAccepted.{accepted-fresh}
-use Rattle.plan.specs.LawsPlanWanted.{image-reaches, fresh-source}
+use Rattle.aim.specs.LawsAccepted.{accepted-fresh}
+use Rattle.plan.specs.LawsPlanSource.{fresh-source}
 use Rattle.plan.specs.LawsPlanWrote.{room-whole}
 use borrow.Author.Needs.{needs}
 use Rattle.plan.proofs.planner.fresh.Statement.{statement}
@@ -17,7 +17,7 @@ returns : tie.Need-returns
 returns c = search (plans-refused, needs)
 
 fresh-length-requires : tie.Need-fresh-length-requires
-fresh-length-requires c κs = let s = accepted-fresh _ _ _ (sym (c .before .fresh-refusal .ensures) ∙ c .if1 .left) in (rules _ (s .device), image-reaches _ _ (s .image-sound))
+fresh-length-requires c κs = rules _ (accepted-fresh _ _ _ (sym (c .before .fresh-refusal .ensures) ∙ (c .if1 .left)) .device)
 
 mul-if2 : tie.Need-mul-if2
 mul-if2 c = search needs
@@ -26,8 +26,8 @@ returns-2 : tie.Need-returns-2
 returns-2 c = plans-short _ _ _ _ _ (c .before .before .before .fresh-refusal .ensures) (c .before .before .if1 .left) (c .before .fresh-length .ensures .is) (c .if2 .taken)
 
 put-fresh-requires : tie.Need-put-fresh-requires
-put-fresh-requires c κs = let s = accepted-fresh _ _ _ (sym (c .before .before .before .before .fresh-refusal .ensures) ∙ c .before .before .before .if1 .left) in
-    (rules _ (s .device), (image-reaches _ _ (s .image-sound), (fresh-source _ _ (s .image-sound), room-whole _ _ _ (c .before .before .fresh-length .ensures .is) (omega arith) (c .before .if2 .left))))
+put-fresh-requires c κs = let s = accepted-fresh _ _ _ (sym (c .before .before .before .before .fresh-refusal .ensures) ∙ (c .before .before .before .if1 .left)) in
+    (rules _ (s .device), (fresh-source _ _ (s .image-sound), room-whole _ _ _ (c .before .before .fresh-length .ensures .is) (omega arith) (c .before .if2 .left)))
 
 same-length : tie.Need-same-length
 same-length c = search needs

@@ -7,14 +7,14 @@ use Rattle.plan.proofs.planner.put_fresh.Statement.{statement}
 use Rattle.plan.proofs.planner.put_fresh.Tie as tie
 
 put-order-requires : tie.Need-put-order-requires
-put-order-requires c κs = (omega arith, room-first _ _ _ _ _ (fresh-opens _ _) (c .before .before .before .pre .1 .1 .1))
+put-order-requires c κs = (omega arith, room-first _ _ _ _ _ (fresh-opens _ _) (c .before .before .before .pre .1 .1))
 
 put-order-requires-2 : tie.Need-put-order-requires-2
 put-order-requires-2 c κs = (
   tt,
   room-part _ _ _ _ _ _ _
       (left-then _ _ _ _ _ _ _ _ _ (left-same _ _ _ _ _ _ _ (fresh-opens _ _) (left-all _ _ _)) (c .before .before .before .put-order .ensures))
-      (c .before .before .before .before .before .before .before .pre .1 .1 .1),
+      (c .before .before .before .before .before .before .before .pre .1 .1),
 )
 
 put-order-requires-3 : tie.Need-put-order-requires-3
@@ -22,7 +22,7 @@ put-order-requires-3 c κs = let a = left-then _ _ _ _ _ _ _ _ _ (left-same _ _ 
     (c .before .before .before .before .before .before .before .put-order .ensures) in (
       tt,
       room-part _ _ _ _ _ _ _ (left-then _ _ _ _ _ _ _ _ _ a (c .before .before .before .put-order2 .ensures))
-          (c .before .before .before .before .before .before .before .before .before .before .before .pre .1 .1 .1),
+          (c .before .before .before .before .before .before .before .before .before .before .before .pre .1 .1),
     )
 
 slice-aggregate-put-body : tie.Need-slice-aggregate-put-body
@@ -32,15 +32,11 @@ put-body-requires : tie.Need-put-body-requires
 put-body-requires c κs = let a = left-then _ _ _ _ _ _ _ _ _ (left-same _ _ _ _ _ _ _ (fresh-opens _ _) (left-all _ _ _))
     (c .before .before .before .before .before .before .before .before .before .before .before .before .put-order .ensures) in
     let b = left-then _ _ _ _ _ _ _ _ _ a (c .before .before .before .before .before .before .before .before .put-order2 .ensures) in (
-      c .before .before .before .before .before .before .before .before .before .before .before .before .before .before .before .before .pre .0,
+      (c .before .before .before .before .before .before .before .before .before .before .before .before .before .before .before .before .pre .0),
       (
-        c .before .before .before .before .before .before .before .before .before .before .before .before .before .before .before .before .pre .1 .0,
-        (
-          c .before .before .before .before .before .before .before .before .before .before .before .before .before .before .before .before .pre .1 .1 .0,
-          room-rest _ _ _ _ _ _
-              (left-then _ _ _ _ _ _ _ _ _ b (c .before .before .before .before .put-order3 .ensures))
-              (c .before .before .before .before .before .before .before .before .before .before .before .before .before .before .before .before .pre .1 .1 .1),
-        ),
+        (c .before .before .before .before .before .before .before .before .before .before .before .before .before .before .before .before .pre .1 .0),
+        room-rest _ _ _ _ _ _ (left-then _ _ _ _ _ _ _ _ _ b (c .before .before .before .before .put-order3 .ensures))
+            (c .before .before .before .before .before .before .before .before .before .before .before .before .before .before .before .before .pre .1 .1),
       ),
     )
 

@@ -3,8 +3,8 @@ use native.Mathlib.Omega.{arith}
 use mathlib.Core.Path.{sym, _∙_}
 use Rattle.device.specs.LawsRecord.{rules}
 use Rattle.plan.specs.LawsPlan.{plans-refused, plans-short, plans-done}
-use Rattle.plan.specs.LawsAccepted.{accepted}
-use Rattle.plan.specs.LawsPlanWanted.{image-reaches, update-source}
+use Rattle.aim.specs.LawsAccepted.{accepted}
+use Rattle.plan.specs.LawsPlanSource.{update-source}
 use Rattle.plan.specs.LawsPlanWrote.{room-whole}
 use borrow.Author.Needs.{needs}
 use Rattle.plan.proofs.planner.update.Statement.{statement}
@@ -17,7 +17,7 @@ returns : tie.Need-returns
 returns c = search (plans-refused, needs)
 
 update-length-requires : tie.Need-update-length-requires
-update-length-requires c κs = let s = accepted _ _ _ (sym (c .before .update-refusal .ensures) ∙ c .if1 .left) in (rules _ (s .device), image-reaches _ _ (s .image-sound))
+update-length-requires c κs = rules _ (accepted _ _ _ (sym (c .before .update-refusal .ensures) ∙ (c .if1 .left)) .device)
 
 mul-if2 : tie.Need-mul-if2
 mul-if2 c = search needs
@@ -26,12 +26,9 @@ returns-2 : tie.Need-returns-2
 returns-2 c = plans-short _ _ _ _ _ (c .before .before .before .update-refusal .ensures) (c .before .before .if1 .left) (c .before .update-length .ensures .is) (c .if2 .taken)
 
 put-update-requires : tie.Need-put-update-requires
-put-update-requires c κs = let s = accepted _ _ _ (sym (c .before .before .before .before .update-refusal .ensures) ∙ c .before .before .before .if1 .left) in (
+put-update-requires c κs = let s = accepted _ _ _ (sym (c .before .before .before .before .update-refusal .ensures) ∙ (c .before .before .before .if1 .left)) in (
   rules _ (s .device),
-  (
-    image-reaches _ _ (s .image-sound),
-    (update-source _ _ _ (s .image-sound) (s .reading-sound), room-whole _ _ _ (c .before .before .update-length .ensures .is) (omega arith) (c .before .if2 .left)),
-  ),
+  (update-source _ _ _ (s .image-sound) (s .reading-sound), room-whole _ _ _ (c .before .before .update-length .ensures .is) (omega arith) (c .before .if2 .left)),
 )
 
 same-length : tie.Need-same-length

@@ -7,21 +7,20 @@ use borrow.Author.Needs.{needs}
 use Rattle.plan.proofs.rows.put_load.Statement.{statement}
 use Rattle.plan.proofs.rows.put_load.Tie as tie
 
-plain-word-requires : tie.Need-plain-word-requires
-plain-word-requires c κs = c .before .before .before .before .pre .1 .0
+wanted-requires : tie.Need-wanted-requires
+wanted-requires c κs = search needs
 
 put-order-requires : tie.Need-put-order-requires
 put-order-requires c κs = (
-  rw (c .plain-word .ensures) (c .before .before .before .before .before .pre .0 .fits _),
-  room-same _ _ _ _
-      (ap (λ w. LoadData w ∷ []) (sym (c .plain-word .ensures))) (c .before .before .before .before .before .pre .1 .1),
+  rw (c .wanted .ensures) ((c .before .before .before .before .before .pre .0) .fits _),
+  room-same _ _ _ _ (ap (λ w. LoadData w ∷ []) (sym (c .wanted .ensures))) (c .before .before .before .before .before .pre .1),
 )
 
 same-length : tie.Need-same-length
 same-length c = search needs
 
 returns : tie.Need-returns
-returns c = wrote-same _ _ _ _ _ _ (ap (λ w. LoadData w ∷ []) (c .before .before .before .plain-word .ensures)) (c .before .before .put-order .ensures)
+returns c = wrote-same _ _ _ _ _ _ (ap (λ w. LoadData w ∷ []) (c .before .before .before .wanted .ensures)) (c .before .before .put-order .ensures)
 
 pub put-load-spec : {M : Type 1} → statement M
-put-load-spec = tie.close (tie.spec plain-word-requires put-order-requires same-length returns)
+put-load-spec = tie.close (tie.spec wanted-requires put-order-requires same-length returns)

@@ -3,7 +3,7 @@ use Prim.Native.Nat.{_+_, _<_}
 use native.Mathlib.Omega.{arith}
 use mathlib.Core.Path.{_≡_, refl}
 use lib.ListN.{length}
-use Rattle.plan.specs.Wanted.{wanted}
+use Rattle.aim.specs.Wanted.{wanted}
 use Rattle.plan.specs.Steps.{loads}
 use Rattle.plan.specs.LawsPlanSteps.{loads-more, loads-last}
 use Rattle.plan.specs.LawsPlanWrote.{Left, left-all, left-same, left-then, left-done, room-part, room-rest}
@@ -19,16 +19,12 @@ abbrev μ-loop : tie.MeasureT-loop
 μ-loop out₀ steps d image reading first count done₀ i₀ left₀ out done i left = left
 
 loop-holds : tie.Need-loop-holds Inv-loop μ-loop
-loop-holds c = (c .before .before .before .pre .1 .0 .0, refl, refl, left-all _ _ _)
+loop-holds c = ((c .before .before .before .pre .1 .0 .0), refl, refl, left-all _ _ _)
 
 put-load-requires : tie.Need-put-load-requires Inv-loop μ-loop
 put-load-requires c κs = (
-  c .before .before .before .before .before .before .pre .0,
-  (
-    omega arith,
-    room-part _ _ _ _ _ _ _ (left-same _ _ _ _ _ _ _ (loads-more _ _ _ (c .before .loop-test .taken)) (c .before .before .loop .inv .3))
-        (c .before .before .before .before .before .before .pre .1 .1),
-  ),
+  (c .before .before .before .before .before .before .pre .0),
+  room-part _ _ _ _ _ _ _ (left-same _ _ _ _ _ _ _ (loads-more _ _ _ (c .before .loop-test .taken)) (c .before .before .loop .inv .3)) (c .before .before .before .before .before .before .pre .1 .1),
 )
 
 put-order-requires : tie.Need-put-order-requires Inv-loop μ-loop
@@ -62,8 +58,8 @@ loop-again c = (
 
 put-load-requires-2 : tie.Need-put-load-requires-2 Inv-loop μ-loop
 put-load-requires-2 c κs = (
-  c .before .before .before .before .before .before .pre .0,
-  (omega arith, room-rest _ _ _ _ _ _ (left-same _ _ _ _ _ _ _ (loads-last _ _ _ (omega arith)) (c .before .before .loop .inv .3)) (c .before .before .before .before .before .before .pre .1 .1)),
+  (c .before .before .before .before .before .before .pre .0),
+  room-rest _ _ _ _ _ _ (left-same _ _ _ _ _ _ _ (loads-last _ _ _ (omega arith)) (c .before .before .loop .inv .3)) (c .before .before .before .before .before .before .pre .1 .1),
 )
 
 same-length : tie.Need-same-length Inv-loop μ-loop

@@ -1,0 +1,58 @@
+-- None of the words before this one rises.
+use Prim.Native.Nat.{_+_, _-_, _≤_}
+use native.Mathlib.Omega.{arith}
+use mathlib.Core.Bool.{false}
+use mathlib.Core.Path.{_≡_, sym, ap, _∙_}
+use Rattle.aim.specs.Wanted.{known, wanted, some, rises}
+use Rattle.aim.specs.LawsSome.{some-zero, some-more, some-here}
+use borrow.Author.Needs.{needs}
+use Rattle.aim.proofs.changes.some_rise.Statement.{statement}
+use Rattle.aim.proofs.changes.some_rise.Tie as tie
+
+abbrev Inv-loop : tie.InvT-loop
+Inv-loop d image reading first count j₀ j = (j ≤ count) × (some j (λ k. rises (wanted d image reading) (known reading) (first + k)) ≡ false)
+
+abbrev μ-loop : tie.MeasureT-loop
+μ-loop d image reading first count j₀ j = count - j
+
+loop-holds : tie.Need-loop-holds Inv-loop μ-loop
+loop-holds c = (search needs, some-zero _)
+
+add-rises : tie.Need-add-rises Inv-loop μ-loop
+add-rises c = omega arith
+
+rises-requires : tie.Need-rises-requires Inv-loop μ-loop
+rises-requires c κs = search needs
+
+returns : tie.Need-returns Inv-loop μ-loop
+returns c = sym (some-here _ _ _ (c .before .before .loop-test .taken) (sym (c .before .rises .ensures) ∙ c .if1 .taken))
+
+add-j : tie.Need-add-j Inv-loop μ-loop
+add-j c = omega arith
+
+loop-less : tie.Need-loop-less Inv-loop μ-loop
+loop-less c = omega arith
+
+loop-again : tie.Need-loop-again Inv-loop μ-loop
+loop-again c = (omega arith, some-more _ _ (c .before .before .before .loop .inv .1) (sym (c .before .rises .ensures) ∙ c .if1 .left))
+
+returns-2 : tie.Need-returns-2 Inv-loop μ-loop
+returns-2 c = let e : c .before .loop .j ≡ c .before .before .before .before .args .count = omega arith in sym
+    (ap (λ n. some n (λ k. rises (wanted (c .before .before .before .before .args .d) (c .before .before .before .before .args .image .now)
+    (c .before .before .before .before .args .reading .now)) (known (c .before .before .before .before .args .reading .now))
+    (c .before .before .before .before .args .first + k))) (sym e) ∙ c .before .loop .inv .1)
+
+pub some-rise-spec : {M : Type 1} → statement M
+some-rise-spec =
+    tie.close
+    (tie.spec
+    Inv-loop
+    μ-loop
+    loop-holds
+    add-rises
+    rises-requires
+    returns
+    add-j
+    loop-less
+    loop-again
+    returns-2)

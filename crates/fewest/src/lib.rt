@@ -1,0 +1,1 @@
+// No stream without Bulk Erase that leaves what an update leaves has fewer Row Erases.
