@@ -1,4 +1,6 @@
 // Answers requests on the proved calls, a line each, as docs/ANSWER.md says.
+#![tactic(auto)]
+
 mod request;
 mod serve;
 

@@ -1,4 +1,6 @@
 // Requests on what the programs print. Those with the same fields go one way, and `which` is the place of the request's name among all of them.
+#![tactic(auto)]
+
 use ask::fields::NOWHERE;
 use ask::name::UNKNOWN;
 use ask::{fields, name, put, room};

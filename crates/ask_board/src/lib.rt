@@ -1,4 +1,6 @@
 // Requests on boards that are opened, and on the texts that programs print.
+#![tactic(auto)]
+
 mod boards;
 mod texts;
 

@@ -1,4 +1,6 @@
 // Requests on devices, on readings judged under them, and on board sheets.
+#![tactic(auto)]
+
 mod readings;
 mod records;
 mod sheets;

@@ -1,4 +1,6 @@
 // Requests on HEX text and its lines.
+#![tactic(auto)]
+
 use ask::fields::NOWHERE;
 use ask::name::UNKNOWN;
 use ask::{fields, name, put, room};

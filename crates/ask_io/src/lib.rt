@@ -1,4 +1,6 @@
 // The lines of standard input, the answers on standard output, and what is said on standard error.
+#![tactic(auto)]
+
 use ask::name::UNKNOWN;
 use ask::put;
 use libc::{STDERR_FILENO, STDIN_FILENO, STDOUT_FILENO};

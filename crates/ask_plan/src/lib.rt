@@ -1,4 +1,6 @@
 // Requests on what a board is to hold and on the three streams.
+#![tactic(auto)]
+
 mod aims;
 
 use ask::fields::NOWHERE;

@@ -1,4 +1,6 @@
 // Requests on the target model, and on the calls that a struct is lent to.
+#![tactic(auto)]
+
 use ask::fields::NOWHERE;
 use ask::name::UNKNOWN;
 use ask::{fields, name, put};

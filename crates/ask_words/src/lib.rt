@@ -1,4 +1,6 @@
 // Requests on words, addresses and the text of numbers.
+#![tactic(auto)]
+
 mod address;
 mod text;
 

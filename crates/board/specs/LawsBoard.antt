@@ -16,7 +16,7 @@ use Rattle.table.specs.Table.{name_ok}
 use Rattle.sheet.specs.Sheet.{sheet_ok, words_in, sheet_number, read_number, read_buffer}
 use Rattle.sheet.specs.LawsSheet.{length_words, read_sound, taken}
 use Rattle.board.specs.Open.{most_program, record_of, name_of, open_number, board_number, board_reading, opened_reading}
-use Rattle.board.specs.LawsOpen.{served_most, opened_sound, opened_named, opened_served, read_number, sheet_words}
+use Rattle.board.specs.LawsOpen.{served_most, opened_sound, opened_named, opened_served, read_number_lem, sheet_words}
 
 -- the most words that the reading of a board has
 abbrev pub most_reading : ℕ
@@ -88,7 +88,7 @@ module _ (table sheet : List ℕ) where
     module _ (number : ℕ) (e : number ≡ read_number d name sheet (take (d.words + reading_tail) before)) where
       pub read_number_is : number ≡ board_number table sheet
       read_number_is =
-          read_number d keeps name named sheet (take (d.words + reading_tail) before) front_long number e
+          read_number_lem d keeps name named sheet (take (d.words + reading_tail) before) front_long number e
           ∙ ((λ i. sheet_number (is i) (cut i) sheet) ∙ sym (board_found z))
 
       pub read_reading : (after : List ℕ) → after ≡ read_buffer d name sheet (take (d.words + reading_tail) before) ++ drop (d.words + reading_tail) before → after ≡ opened_reading table sheet before

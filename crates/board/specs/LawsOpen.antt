@@ -152,12 +152,12 @@ module _ (table sheet : List ℕ) (n : ℕ) (e : n ≡ open_number table sheet) 
 
 module _ (d : Device) (sound : device_ok d ≡ true) (name : List ℕ) (named : name_ok name ≡ true) (t b : List ℕ) (long : length b ≡ d.words + reading_tail) (n : ℕ)
     (e : n ≡ read_number d name t b) where
-  pub read_number : n ≡ sheet_number d name t
+  pub read_number_lem : n ≡ sheet_number d name t
   unfolding read_number pick
-  read_number = e ∙ (rw (both (device_ok d) (name_ok name) sound named, eq-eqb (length b) (d.words + reading_tail) long))
+  read_number_lem = e ∙ (rw (both (device_ok d) (name_ok name) sound named, eq-eqb (length b) (d.words + reading_tail) long))
 
   pub sheet_good : n ≡ 0 → sheet_ok d t ≡ true
-  sheet_good z = (taken d name t (sym read_number ∙ z)).ok
+  sheet_good z = (taken d name t (sym read_number_lem ∙ z)).ok
 
   pub sheet_words : n ≡ 0 → (b' : List ℕ) → b' ≡ read_buffer d name t b → b' ≡ words_in d.words t
   unfolding read_buffer pick

@@ -1,4 +1,6 @@
 // A board, opened: the record that the table has for the ID on the sheet's first line, and the sheet's reading under it. No public call here has a `requires`.
+#![tactic(auto)]
+
 ghost use Rattle.std.specs.Prelude.{◌≡◌, ◌++◌, ◌+◌, ◌≤◌, length, take, drop};
 ghost use Rattle.device.specs.Memory.{reading_tail};
 ghost use Rattle.table.specs.Table.{found_in};

@@ -1,4 +1,6 @@
 // Prints the checksum of a board's sheet, or why it is refused: device.tab and board.txt, or the two files that the arguments name.
+#![tactic(auto)]
+
 fn main() {
     let mut table = io::buffer();
     let t = files::read(files::open(1, b"device.tab"), &mut table);

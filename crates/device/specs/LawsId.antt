@@ -7,7 +7,7 @@ use borrow.Author.Tests.{eqb-true, eq-eqb, ne_eqb}
 use Rattle.words.specs.Word.{erased, is_word}
 use Rattle.words.specs.LawsChoice.{first_holds, second_holds}
 use Rattle.words.specs.LawsTests.{by_lt}
-use Rattle.words.specs.LawsWord.{is_word, not_word, word_lt, and_erased}
+use Rattle.words.specs.LawsWord.{is_word_lem, not_word, word_lt, and_erased}
 use Rattle.device.specs.declared.Device.{Device}
 use Rattle.device.specs.Record.{device_up_to, fits}
 use Rattle.device.specs.LawsRecord.{RulesUpTo, keeps_up_to, rules_up_to}
@@ -20,7 +20,7 @@ module _ (d : Device) (w : ℕ) where
 
   pub fits_low : w < 0x4000 → fits d w ≡ eqb (bit_and w d.idmask) (bit_and d.id d.idmask)
   unfolding fits
-  fits_low h = rw (is_word w h)
+  fits_low h = rw (is_word_lem w h)
 
   -- what fits is a word, and has the ID's bits under the mask
   pub fits_word : fits d w ≡ true → w < 0x4000

@@ -9,7 +9,7 @@ use Rattle.words.specs.Word.{not_given, is_word}
 use Rattle.words.specs.Lists.{every, in_range}
 use Rattle.words.specs.LawsChoice.{both, first_holds, second_holds, first_fails, true_not_false}
 use Rattle.words.specs.LawsLists.{every_at, every_all, in_range_lem, below_range, above_range, get_d_past}
-use Rattle.words.specs.LawsWord.{word_lt, is_word, bit_of_zero, words_long, words_each}
+use Rattle.words.specs.LawsWord.{word_lt, is_word_lem, bit_of_zero, words_long, words_each}
 use Rattle.device.specs.Memory.{reading_tail, ids, cp_word, cp_bit, is_config, programmable, reading_ok, entry_ok, image_ok, zero_bit, protected}
 
 -- ---- places
@@ -57,7 +57,7 @@ module _ (words i entry : ℕ) where
   -- a word is sound where a word may be given
   pub entry_given : entry < 0x4000 → entry_ok words i entry ≡ programmable words i
   unfolding entry_ok
-  entry_given w = rw (ne_eqb entry not_given (λ e. omega arith), is_word entry w)
+  entry_given w = rw (ne_eqb entry not_given (λ e. omega arith), is_word_lem entry w)
 
   -- a sound entry is 'not given', or a word where a word may be given
   pub entry_word : entry_ok words i entry ≡ true → (entry ≡ not_given → ⊥) → (entry < 0x4000) × (programmable words i ≡ true)

@@ -12,7 +12,7 @@ use borrow.Author.Tests.{eq-eqb, eqb-true, le-leb, leb-true}
 use Rattle.words.specs.Choice.{pick}
 use Rattle.words.specs.Word.{is_word, bit}
 use Rattle.words.specs.LawsChoice.{first_holds, second_holds, decided, pick_true, pick_false, true_not_false}
-use Rattle.words.specs.LawsWord.{is_word, word_lt}
+use Rattle.words.specs.LawsWord.{is_word_lem, word_lt}
 use Rattle.device.specs.declared.Device.{Device}
 use Rattle.device.specs.Record.{most_words, row_ok, words_up_to, device_up_to, device_ok, record_number}
 
@@ -73,10 +73,10 @@ module _ (top : ℕ) (d : Device) where
         eq-eqb (d.words % d.row) 0 v.multiple,
         le-leb d.row d.words v.least,
         le-leb d.words top v.most,
-        is_word d.id v.id_word,
-        is_word d.mask1 v.mask1_word,
-        is_word d.mask2 v.mask2_word,
-        is_word d.idmask v.idmask_word,
+        is_word_lem d.id v.id_word,
+        is_word_lem d.mask1 v.mask1_word,
+        is_word_lem d.mask2 v.mask2_word,
+        is_word_lem d.idmask v.idmask_word,
         eq-eqb (bit d.mask1 7) 1 v.cp_bit_lem,
       )
 
@@ -136,12 +136,12 @@ module _ (d : Device) where
   unfolding device_ok
   keeps r = keeps_up_to most_words d r
 
-  pub rules : device_ok d ≡ true → Rules d
+  pub rules_lem : device_ok d ≡ true → Rules d
   unfolding device_ok
-  rules e = rules_up_to most_words d e
+  rules_lem e = rules_up_to most_words d e
 
   pub breaks : (Rules d → ⊥) → device_ok d ≡ false
-  breaks h = ⊎_elim (λ e. absurd (h (rules e))) (λ e. e) (decided (device_ok d))
+  breaks h = ⊎_elim (λ e. absurd (h (rules_lem e))) (λ e. e) (decided (device_ok d))
 
   pub words_of_lem : Rules d → words_up_to most_words d.words d.row ≡ true
   unfolding words_up_to
@@ -166,7 +166,7 @@ module _ (d : Device) where
   -- the tests of the code, one by one
   pub judged_all : row_ok d.row ≡ true → words_up_to most_words d.words d.row ≡ true → d.id < 0x4000 → d.mask1 < 0x4000 → d.mask2 < 0x4000 → d.idmask < 0x4000 → bit d.mask1 7 ≡ 1 → 0 ≡ record_number d
   unfolding record_number device_ok device_up_to pick
-  judged_all r w i m n k b = rw (r, w, is_word d.id i, is_word d.mask1 m, is_word d.mask2 n, is_word d.idmask k, eq-eqb (bit d.mask1 7) 1 b)
+  judged_all r w i m n k b = rw (r, w, is_word_lem d.id i, is_word_lem d.mask1 m, is_word_lem d.mask2 n, is_word_lem d.idmask k, eq-eqb (bit d.mask1 7) 1 b)
 
   pub judged_row : row_ok d.row ≡ false → 13 ≡ record_number d
   judged_row f = judged_bad (λ r. true_not_false r.row_is f)
@@ -183,10 +183,10 @@ module _ (d : Device) where
       bad f = let z : ◌≡◌ {A = ℕ} 13 0 = sym (pick_false (device_ok d) 0 13 f) ∙ e in omega arith
 
   pub rules_of_judged : record_number d ≡ 0 → Rules d
-  rules_of_judged e = rules (ok_of_judged e)
+  rules_of_judged e = rules_lem (ok_of_judged e)
 
   pub bad_of_judged : (record_number d ≡ 0 → ⊥) → device_ok d ≡ false
-  bad_of_judged h = ⊎_elim (λ t. absurd (h (sym (judged_good (rules t))))) (λ f. f) (decided (device_ok d))
+  bad_of_judged h = ⊎_elim (λ t. absurd (h (sym (judged_good (rules_lem t))))) (λ f. f) (decided (device_ok d))
 
 -- P is a multiple of 8 too
 pub words_eighths : (d : Device) → Rules d → d.words % 8 ≡ 0

@@ -1,4 +1,6 @@
 // The device record and its rules (13), and the places of a device's memory. No call here has a `requires`.
+#![tactic(auto)]
+
 mod image;
 mod memory;
 mod record;

@@ -7,7 +7,7 @@ use Rattle.words.specs.LawsLists.{get_or_build}
 use Rattle.words.specs.LawsWord.{Contains, words_long}
 use Rattle.device.specs.declared.Device.{Device}
 use Rattle.device.specs.Memory.{reading_tail, cells_tail, ids, programmable}
-use Rattle.device.specs.LawsRecord.{rules}
+use Rattle.device.specs.LawsRecord.{rules_lem}
 use Rattle.device.specs.LawsMemory.{programmable_low, reading_long}
 use Rattle.target.specs.Chip.{chip_of}
 use Rattle.target.specs.Model.{Run}
@@ -40,7 +40,7 @@ programmed_word d image reading first i p q =
 module _ (d : Device) (image reading first : List ℕ) (e : update_number d image reading ≡ 0) (s : sound_cells (chip_of d) first ≡ true)
     (held : (i : ℕ) → i < d.words + reading_tail → get_or first i 0 ≡ get_or reading i 0) where
   sound : SoundChip (chip_of d)
-  sound = sound_chip d (rules d (accepted d image reading e).device)
+  sound = sound_chip d (rules_lem d (accepted d image reading e).device)
 
   known_is : (i : ℕ) → i < d.words + reading_tail → known reading i ≡ get_or reading i 0
   known_is i h = known_inside reading i (rw (reading_long d.words reading (accepted d image reading e).reading_sound) h)

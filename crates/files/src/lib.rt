@@ -1,4 +1,6 @@
 // What stands around a program's call: its files are opened and read, and its text is written.
+#![tactic(auto)]
+
 ghost use Rattle.io.specs.Counts.{IsPrefixLen};
 
 use libc::{STDERR_FILENO, STDOUT_FILENO};

@@ -1,4 +1,6 @@
 // Prints the steps that erase a board and program it anew from a HEX file, or why they are refused: device.tab, board.txt and new.hex, or the three files that the arguments name.
+#![tactic(auto)]
+
 fn main() {
     let mut table = io::buffer();
     let t = files::read(files::open(1, b"device.tab"), &mut table);

@@ -1,4 +1,6 @@
 // Prints the sheet of the words that a read-back answered, or why it is refused: device.tab, board.txt, of which only line 1 counts, and words.txt, or the three files that the arguments name.
+#![tactic(auto)]
+
 fn main() {
     let mut table = io::buffer();
     let t = files::read(files::open(1, b"device.tab"), &mut table);

@@ -8,7 +8,7 @@ use Rattle.words.specs.Word.{is_word}
 use Rattle.words.specs.Lists.{every}
 use Rattle.words.specs.LawsChoice.{both, first_holds, second_holds, first_fails, same_test}
 use Rattle.words.specs.LawsLists.{length_build, get_or_build, built, every_none, every_more, every_no, every_at, every_all}
-use Rattle.words.specs.LawsWord.{is_word, not_word, word_lt, words_of_lem}
+use Rattle.words.specs.LawsWord.{is_word_lem, not_word, word_lt, words_of_lem}
 use Rattle.numerals.specs.Text.{lf}
 use Rattle.numerals.specs.Hex.{capital_of, word_by, word_text}
 use Rattle.numerals.specs.LawsHex.{length_word_text}
@@ -35,7 +35,7 @@ module _ (t : List ℕ) (at : ℕ) where
 
   pub line_end : word_by capital_of t at < 0x4000 → eqb (get_or t (at + 4) 0) lf ≡ answer_ok t at
   unfolding answer_ok
-  line_end h = rw (is_word (word_by capital_of t at) h)
+  line_end h = rw (is_word_lem (word_by capital_of t at) h)
 
 module _ (t : List ℕ) where
   pub lines_none : answers_to t 0 ≡ true
@@ -175,7 +175,7 @@ module _ (words : ℕ) (t : List ℕ) where
           let s : get_or read k 0 < 0x4000 = reading_each words read (answers_sound words t ok) k in
           let q : k < length read = rw (length_in words t) h in
           let here : (word_by capital_of t (5 * k) ≡ get_or read k 0) × (get_or t (5 * k + 4) 0 ≡ lf) = line_of read (rw same (stands_self t)) k q s in
-          both (is_word (word_by capital_of t (5 * k))) (eqb (get_or t (5 * k + 4) 0) lf) (ap is_word here.0 ∙ is_word (get_or read k 0) s) (eq-eqb (get_or t (5 * k + 4) 0) lf here.1)
+          both (is_word (word_by capital_of t (5 * k))) (eqb (get_or t (5 * k + 4) 0) lf) (ap is_word here.0 ∙ is_word_lem (get_or read k 0) s) (eq-eqb (get_or t (5 * k + 4) 0) lf here.1)
 
   places_answers : places_ok words t ≡ answers_ok words t
   places_answers =

@@ -1,4 +1,6 @@
 // What the program gather prints: files in, the sheet of the words that a read-back answered out. No public call here has a `requires`.
+#![tactic(auto)]
+
 mod answers;
 
 ghost use Rattle.std.specs.Prelude.{◌≡◌, true, ◌≤◌, ◌<◌};

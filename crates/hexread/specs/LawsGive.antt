@@ -8,7 +8,7 @@ use Rattle.words.specs.Word.{not_given}
 use Rattle.words.specs.Address.{halved}
 use Rattle.words.specs.declared.ByteAddress.{ByteAddress}
 use Rattle.words.specs.declared.Place.{Place}
-use Rattle.words.specs.LawsWord.{is_word, not_word}
+use Rattle.words.specs.LawsWord.{is_word_lem, not_word}
 use Rattle.device.specs.Memory.{reading_tail, programmable}
 use Rattle.device.specs.LawsMemory.{programmable_lt}
 use Rattle.hexread.specs.Line.{count_of}
@@ -81,13 +81,13 @@ module _ (words upper : ℕ) (line image : List ℕ) where
           pub turn_9 : (get_or image entry 0 ≡ not_given → ⊥) → gave words upper line image j (n - j) ≡ stopped upper image 9 j
           turn_9 h =
               give_stop 9
-              (unfold word_number pick in rw (← at, can, ← w, is_word word low, get_d_default image entry not_given 0 here, ne_eqb (get_or image entry 0) not_given h))
+              (unfold word_number pick in rw (← at, can, ← w, is_word_lem word low, get_d_default image entry not_given 0 here, ne_eqb (get_or image entry 0) not_given h))
               (λ z. omega arith)
 
           pub turn_on : get_or image entry 0 ≡ not_given
               → gave words upper line image j (n - j) ≡ gave words upper line (set image entry word) (j + 1) (n - (j + 1))
           turn_on h =
-              give_on (unfold word_number pick in rw (← at, can, ← w, is_word word low, get_d_default image entry not_given 0 here, eq-eqb (get_or image entry 0) not_given h))
+              give_on (unfold word_number pick in rw (← at, can, ← w, is_word_lem word low, get_d_default image entry not_given 0 here, eq-eqb (get_or image entry 0) not_given h))
               ∙ rw (at, w)
 
 -- ---- the loop over a record's words

@@ -1,4 +1,6 @@
 // Intel HEX, read into an image. No call here has a `requires`.
+#![tactic(auto)]
+
 mod column;
 mod give;
 mod give_program;

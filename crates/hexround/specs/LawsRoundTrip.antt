@@ -18,13 +18,13 @@ use Rattle.words.specs.Lists.{build}
 use Rattle.words.specs.Address.{config_base, address_of, doubled}
 use Rattle.words.specs.LawsChoice.{pick_true, pick_false, decided}
 use Rattle.words.specs.LawsLists.{length_build, get_or_build, built, build_ext, build_set}
-use Rattle.words.specs.LawsWord.{is_word}
+use Rattle.words.specs.LawsWord.{is_word_lem}
 use Rattle.words.specs.LawsAddress.{halved_doubled, entry_of_address}
 use Rattle.words.specs.declared.ByteAddress.{ByteAddress}
 use Rattle.device.specs.declared.Device.{Device}
 use Rattle.device.specs.Record.{most_words, device_ok}
 use Rattle.device.specs.Memory.{reading_tail, programmable, image_ok}
-use Rattle.device.specs.LawsRecord.{Rules, rules, words_eighths}
+use Rattle.device.specs.LawsRecord.{Rules, rules_lem, words_eighths}
 use Rattle.device.specs.LawsMemory.{image_long, image_each, entry_word}
 use Rattle.hexwrite.specs.declared.WrittenHex.{WrittenHex}
 use Rattle.lines.specs.Lines.{lines_of, all_without_cr, without_cr}
@@ -304,7 +304,7 @@ module _ (words : ℕ) (image : List ℕ) (s e : ℕ) (eighths : words % 8 ≡ 0
           entry_back j h,
           (word_fits (s + j) (omega arith) (omega arith)).1,
           word_back j h,
-          is_word (get_or image (s + j) 0) (word_fits (s + j) (omega arith) (omega arith)).0,
+          is_word_lem (get_or image (s + j) 0) (word_fits (s + j) (omega arith) (omega arith)).0,
           up_to_next (words + reading_tail) image (s + j) (omega arith),
         )
 
@@ -374,7 +374,7 @@ pub round_trip : (d : Device) (image buffer : List ℕ) → device_ok d ≡ true
     → text_read d (hex_text d.words image) buffer ≡ record { number = 0; line = 0; column = 0; image = image }
 unfolding text_read
 round_trip d image buffer sound ok long =
-    let keeps : Rules d = rules d sound in
+    let keeps : Rules d = rules_lem d sound in
     let short : length (hex_text d.words image) ≤ 14 * d.words + 156 = text_length d.words image keeps.most in
     pick_true (device_ok d) _ _ sound
     ∙ (pick_true (eqb (length buffer) (d.words + reading_tail)) _ _ (eq-eqb (length buffer) (d.words + reading_tail) long)

@@ -1,1 +1,3 @@
 // What is written as HEX is read back as the same image.
+#![tactic(auto)]
+

@@ -1,4 +1,6 @@
 // Intel HEX, written of an image. No call here has a `requires`.
+#![tactic(auto)]
+
 mod write;
 mod write_address;
 mod write_length;

@@ -14,7 +14,7 @@ use Rattle.words.specs.LawsFirst.{first, first_same}
 use Rattle.device.specs.declared.Device.{Device}
 use Rattle.device.specs.Record.{device_ok}
 use Rattle.device.specs.Memory.{reading_tail, ids, cp_word, cp_bit, programmable, mask_at, reading_ok, zero_bit, protected}
-use Rattle.device.specs.LawsRecord.{rules}
+use Rattle.device.specs.LawsRecord.{rules_lem}
 use Rattle.device.specs.LawsMask.{mask_one, mask_two, under_plain}
 use Rattle.device.specs.LawsMemory.{reading_each, protected_same}
 use Rattle.judge.specs.Count.{count_to}
@@ -266,7 +266,7 @@ module _ (d : Device) (ok : device_ok d ≡ true) (wanted wanted' reading readin
   spare_guard =
       ap (λ n. eqb n 0)
       (equal_bit (mask_at d (d.words + cp_word)) (get_or reading (d.words + cp_word) 0) (get_or reading' (d.words + cp_word) 0) (same (d.words + cp_word) (omega arith)).1 cp_bit
-      (ap (λ m. bit m cp_bit) (mask_one d (d.words + cp_word) refl) ∙ (rules d ok).cp_bit_lem))
+      (ap (λ m. bit m cp_bit) (mask_one d (d.words + cp_word) refl) ∙ (rules_lem d ok).cp_bit_lem))
 
   spare_each : (i : ℕ) → i < d.words + reading_tail → entry_differs d wanted reading i ≡ entry_differs d wanted' reading' i
   unfolding entry_differs

@@ -1,4 +1,6 @@
 // Checksum and verify. No call here has a `requires`.
+#![tactic(auto)]
+
 mod checksums;
 mod stretch;
 mod verdicts;

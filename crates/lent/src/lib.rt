@@ -1,4 +1,6 @@
 // The calls that a struct is lent to, asked with plain values. No public call here has a `requires`.
+#![tactic(auto)]
+
 mod text;
 
 ghost use Rattle.target.specs.Step.{Steps};

@@ -1,4 +1,6 @@
 // The lines of a lent text, taken one after another: a core over slice and cursor, and a reader that holds both. No call here has a `requires`.
+#![tactic(auto)]
+
 mod scan;
 
 ghost use Rattle.std.specs.Prelude.{◌≡◌};

@@ -10,7 +10,7 @@ use Rattle.words.specs.LawsChoice.{pick_true, pick_false}
 use Rattle.device.specs.declared.Device.{Device}
 use Rattle.device.specs.Memory.{reading_tail}
 use Rattle.device.specs.Record.{device_up_to, device_ok}
-use Rattle.device.specs.LawsRecord.{Rules, rules, row, whole_rows}
+use Rattle.device.specs.LawsRecord.{Rules, rules_lem, row, whole_rows}
 use Rattle.device.specs.LawsMemory.{image_long}
 use Rattle.hexread.specs.Reader.{Outcome, blank_image, refused_at, text_read, read_answer, HexRead}
 use Rattle.hexread.specs.declared.ReadHex.{ReadHex}
@@ -202,7 +202,7 @@ module _ (fresh left : Bool) (table sheet hex : List ℕ) where
 
 program_few : (d : Device) (served : device_up_to most_program d ≡ true) (n : ℕ) → n ≤ 2 * d.words + 2 * (d.words / d.row) + 22 → 3 * n ≤ most_stream
 program_few d served n h =
-    let keeps : Rules d = rules d (served_sound d served) in
+    let keeps : Rules d = rules_lem d (served_sound d served) in
     let rows : d.words / d.row * d.row ≡ d.words = whole_rows d keeps in
     let least : 8 ≤ d.row = (row d.row keeps.row_is).low in
     let eight : d.words / d.row * 8 ≤ d.words / d.row * d.row = mul-le-mul_left (d.words / d.row) least in

@@ -1,4 +1,6 @@
 // What the programs update, fresh, wanted, wanted_fresh and readback print: files in, the lines of a stream or a sheet out. No public call here has a `requires`.
+#![tactic(auto)]
+
 mod plans;
 mod readbacks;
 mod streams;

@@ -12,7 +12,7 @@ use Rattle.words.specs.LawsTests.{by_eq}
 use Rattle.device.specs.declared.Device.{Device}
 use Rattle.device.specs.Record.{most_words, device_ok}
 use Rattle.device.specs.Memory.{reading_tail, reading_ok}
-use Rattle.device.specs.LawsRecord.{rules}
+use Rattle.device.specs.LawsRecord.{rules_lem}
 use Rattle.device.specs.LawsId.{with_id, with_id_lem}
 use Rattle.table.specs.Table.{name_ok}
 use Rattle.judge.specs.Checksum.{checksum_of}
@@ -25,7 +25,7 @@ use Rattle.sheetwrite.specs.declared.Written.{Written}
 use Rattle.sheetwrite.specs.Write.{sheet_text, sheet_length, written, written_text, new_text, new_length, new_written, new_written_text}
 use Rattle.sheetwrite.specs.LawsWrite.{with_text, with_new, length_sheet, length_new_sheet}
 use Rattle.board.specs.Open.{record_of, name_of, open_number, board_reading}
-use Rattle.board.specs.LawsOpen.{read_number, sheet_words}
+use Rattle.board.specs.LawsOpen.{read_number_lem, sheet_words}
 use Rattle.moves.specs.Move.{move_number, new_of, old_of, moved, moved_text}
 use Rattle.moves.specs.LawsMove.{found_number, lifted_is, move_refused, move_found, move_there, Finds, finds, move_words, Moved, moved_written}
 
@@ -72,7 +72,7 @@ module _ (table text : List ℕ) where
         keeps = ap device_ok is ∙ found_there.sound
 
         pub read_room : d.words + reading_tail ≤ length before
-        read_room = let most : d.words ≤ most_words = (rules d keeps).most in omega arith
+        read_room = let most : d.words ≤ most_words = (rules_lem d keeps).most in omega arith
 
         pub front_long : length (take (d.words + reading_tail) before) ≡ d.words + reading_tail
         front_long = length-take-le (d.words + reading_tail) before read_room
@@ -83,7 +83,7 @@ module _ (table text : List ℕ) where
 
           pub read_is : number ≡ move_number table text
           read_is =
-              read_number d keeps name named text (take (d.words + reading_tail) before) front_long number h
+              read_number_lem d keeps name named text (take (d.words + reading_tail) before) front_long number h
               ∙ ((λ i. sheet_number (is i) (cut i) text) ∙ sym (move_found table text there))
 
           pub read_left : (after : List ℕ) → after ≡ read_buffer d name text (take (d.words + reading_tail) before) ++ drop (d.words + reading_tail) before → after ≡ words_left table text before
@@ -133,7 +133,7 @@ module _ (table text : List ℕ) (number : ℕ) (e : number ≡ move_number tabl
   size = ap length stored ∙ (length-sets (replicate {A = ℕ} longest_reading 0) 0 (board_reading table text) ∙ length-replicate {A = ℕ} longest_reading 0)
 
   pub words_within : d.words + reading_tail ≤ length words
-  words_within = let most : d.words ≤ most_words = (rules d keeps₂).most in rw size (omega arith)
+  words_within = let most : d.words ≤ most_words = (rules_lem d keeps₂).most in rw size (omega arith)
 
   pub words_long : length (take (d.words + reading_tail) words) ≡ d.words + reading_tail
   words_long = length-take-le (d.words + reading_tail) words words_within

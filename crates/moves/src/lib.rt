@@ -1,4 +1,6 @@
 // Sheets moved between their two forms. No public call here has a `requires`.
+#![tactic(auto)]
+
 mod programs;
 mod sheets;
 

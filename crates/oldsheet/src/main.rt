@@ -1,4 +1,6 @@
 // Prints a board's sheet in the old form, or why it is refused: device.tab and board.txt, or the two files that the arguments name.
+#![tactic(auto)]
+
 fn main() {
     let mut table = io::buffer();
     let t = files::read(files::open(1, b"device.tab"), &mut table);

@@ -10,7 +10,7 @@ use Rattle.words.specs.LawsChoice.{pick_true, true_not_false}
 use Rattle.words.specs.LawsWord.{words_long, words_each, erased_contains}
 use Rattle.device.specs.declared.Device.{Device}
 use Rattle.device.specs.Memory.{cells_tail, zero_bit}
-use Rattle.device.specs.LawsRecord.{Rules, rules}
+use Rattle.device.specs.LawsRecord.{Rules, rules_lem}
 use Rattle.target.specs.Chip.{Chip, chip_of}
 use Rattle.target.specs.Effects.{locked, edit, bulk_erased}
 use Rattle.target.specs.Model.{Effect, done}
@@ -189,7 +189,7 @@ module _ (d : Device) (image : List ℕ) (id_word : ℕ) (cells : List ℕ) (e :
   a = accepted_fresh d image id_word e
 
   r : Rules d
-  r = rules d a.device
+  r = rules_lem d a.device
 
   fit : (i : ℕ) → wanted d image [] i < 0x4000
   fit = wanted_fits d image [] a.image_sound (known_fits [] (λ i. omega arith))

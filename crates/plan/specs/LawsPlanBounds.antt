@@ -13,7 +13,7 @@ use Rattle.words.specs.LawsChoice.{pick_true, pick_false}
 use Rattle.device.specs.declared.Device.{Device}
 use Rattle.device.specs.Memory.{reading_tail}
 use Rattle.device.specs.Record.{most_words, device_ok}
-use Rattle.device.specs.LawsRecord.{Rules, rules, row}
+use Rattle.device.specs.LawsRecord.{Rules, rules_lem, row}
 use Rattle.target.specs.Chip.{Chip, chip_of}
 use Rattle.target.specs.LawsChip.{SoundChip, sound_chip}
 use Rattle.target.specs.declared.Order.{Order}
@@ -348,11 +348,11 @@ module _ (d : Device) (r : Rules d) where
 
 -- never more than 2P + 2P/R + 22 steps
 pub update_bound : (d : Device) (image reading : List ℕ) → device_ok d ≡ true → length (update_steps d image reading) ≤ 2 * d.words + 2 * (d.words / d.row) + 22
-update_bound d image reading e = update_most d (rules d e) image reading
+update_bound d image reading e = update_most d (rules_lem d e) image reading
 
 pub fresh_bound : (d : Device) (image : List ℕ) → device_ok d ≡ true → length (fresh_steps d image) ≤ 2 * d.words + 2 * (d.words / d.row) + 22
-fresh_bound d image e = fresh_most d (rules d e) image
+fresh_bound d image e = fresh_most d (rules_lem d e) image
 
 -- it has 2P + 18 steps
 pub read_back_steps_lem : (d : Device) → device_ok d ≡ true → length (read_back_steps d) ≡ 2 * d.words + 18
-read_back_steps_lem d e = read_back_count d (rules d e)
+read_back_steps_lem d e = read_back_count d (rules_lem d e)

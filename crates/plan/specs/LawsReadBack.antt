@@ -14,7 +14,7 @@ use Rattle.words.specs.LawsAddress.{successor_program, successor_config}
 use Rattle.device.specs.declared.Device.{Device}
 use Rattle.device.specs.Record.{device_ok}
 use Rattle.device.specs.Memory.{reading_tail, protected}
-use Rattle.device.specs.LawsRecord.{rules}
+use Rattle.device.specs.LawsRecord.{rules_lem}
 use Rattle.target.specs.Chip.{Chip, chip_of}
 use Rattle.target.specs.Effects.{blank, in_program, locked, word_read}
 use Rattle.target.specs.Model.{done, stops, run_of}
@@ -254,5 +254,5 @@ module _ (d : Device) (cells words : List ℕ) (ok : device_ok d ≡ true) (soun
       ≡ stands (at ((chip_of d).base + (reading_tail - 1)) (set (blank (chip_of d)) 0 erased) (d.words + reading_tail) (sets words 0 (reading_of d cells)) cells) (length (read_back_steps d)) 0
   unfolding ran read_back_steps
   read_back_answers n h =
-      chip_read_back (chip_of d) (sound_chip d (rules d ok)) cells words fits (run_refusal d) (unrefused d ok (read_back_steps d) cells sound) n h
+      chip_read_back (chip_of d) (sound_chip d (rules_lem d ok)) cells words fits (run_refusal d) (unrefused d ok (read_back_steps d) cells sound) n h
       ∙ (λ i. stands (at ((chip_of d).base + (reading_tail - 1)) (set (blank (chip_of d)) 0 erased) (d.words + reading_tail) (sets words 0 (reading_same i)) cells) (length (read_back_steps d)) 0)

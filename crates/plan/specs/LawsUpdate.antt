@@ -12,7 +12,7 @@ use Rattle.words.specs.LawsWord.{Contains, words_long, words_each}
 use Rattle.words.specs.LawsMask.{Reaches, reaches_any}
 use Rattle.device.specs.declared.Device.{Device}
 use Rattle.device.specs.Memory.{reading_tail, cells_tail, cp_word, is_config, mask_at, protected}
-use Rattle.device.specs.LawsRecord.{Rules, rules}
+use Rattle.device.specs.LawsRecord.{Rules, rules_lem}
 use Rattle.device.specs.LawsMask.{mask_plain}
 use Rattle.device.specs.LawsMemory.{reading_long, reading_each, protected_same, config_range}
 use Rattle.target.specs.Chip.{Chip, chip_of}
@@ -167,7 +167,7 @@ module _ (d : Device) (image reading cells : List ℕ) (e : update_number d imag
   a = accepted d image reading e
 
   r : Rules d
-  r = rules d a.device
+  r = rules_lem d a.device
 
   fit : (i : ℕ) → wanted d image reading i < 0x4000
   fit = wanted_fits d image reading a.image_sound (known_fits reading (reading_each d.words reading a.reading_sound))

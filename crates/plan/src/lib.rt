@@ -1,4 +1,6 @@
 // The three streams: update, fresh and read-back. No public call here has a `requires`.
+#![tactic(auto)]
+
 mod config;
 mod count;
 mod orders;

@@ -1,5 +1,7 @@
 // What the programs print, from the start of a lent buffer: a line or a text. The answer is the length of all of it, and what has no room is not stored.
 // No public call here has a `requires`.
+#![tactic(auto)]
+
 mod parts;
 
 ghost use Rattle.print.specs.Print.{refused_text, sum_text, verdict_text, Prints};

@@ -1,4 +1,6 @@
 // HEX files as stock tools write them: how each is read, and the words that it gives. docs/REAL-FILES.md has the command that made each.
+#![tactic(auto)]
+
 mod show;
 
 fn main() {

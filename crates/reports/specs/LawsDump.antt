@@ -17,7 +17,7 @@ use Rattle.words.specs.LawsLists.{length_build, get_or_build, build_ext, in_rang
 use Rattle.device.specs.declared.Device.{Device}
 use Rattle.device.specs.Record.{device_up_to, device_ok}
 use Rattle.device.specs.Memory.{reading_tail, ids, cp_word, programmable, entry_ok, image_ok, reading_ok, protected}
-use Rattle.device.specs.LawsRecord.{Rules, rules, words_eighths}
+use Rattle.device.specs.LawsRecord.{Rules, rules_lem, words_eighths}
 use Rattle.device.specs.LawsMemory.{programmable_low, programmable_never, programmable_config, programmable_lt, entry_none, entry_given, image_of_lem, reading_each}
 use Rattle.hexwrite.specs.declared.WrittenHex.{WrittenHex}
 use Rattle.hexwrite.specs.Writer.{hex_text, written_hex, written_out, WroteHex}
@@ -99,7 +99,7 @@ pub record Dumped (text : List ℕ) (r : WrittenHex) (out : List ℕ) : Type 0 w
 text_few : (d : Device) → device_up_to most_program d ≡ true → (reading : List ℕ) → reading_ok d.words reading ≡ true → length (hex_text d.words (image_of d.words reading)) ≤ most_dump
 text_few d served reading ok =
     let most : d.words ≤ most_program = served_most d served in
-    let keeps : Rules d = rules d (served_sound d served) in
+    let keeps : Rules d = rules_lem d (served_sound d served) in
     let short : length (hex_text d.words (image_of d.words reading)) ≤ 44 * (d.words / 8) + 88 =
     whole_length d.words keeps.most (words_eighths d keeps) (image_of d.words reading) (image_long d.words reading)
     (image_given d.words reading ok) (image_never d.words reading) in

@@ -24,7 +24,7 @@ use Rattle.judge.specs.LawsVerify.{verified_judged}
 use Rattle.print.specs.Print.{refused_text, sum_text, verdict_text}
 use Rattle.print.specs.LawsLines.{either_short, sum_short, verdict_short}
 use Rattle.board.specs.Open.{most_program, record_of, name_of, board_number, board_reading}
-use Rattle.board.specs.LawsOpen.{read_number, sheet_good, sheet_words}
+use Rattle.board.specs.LawsOpen.{read_number_lem, sheet_good, sheet_words}
 use Rattle.board.specs.LawsBoard.{most_reading, Board, board_named, board_told, board_text}
 use Rattle.reports.specs.Programs.{checksum_text, verdict_line, verify_number, verify_text}
 
@@ -70,7 +70,7 @@ module _ (table sheet wanted : List ℕ) (number : ℕ) (e : number ≡ board_nu
     unfolding verify_number
     judged_is =
         pick_true _ _ _ (eq-eqb (board_number table sheet) 0 (sym e ∙ z))
-        ∙ ((λ i. sheet_number (sym b.record_is i) (sym cut i) wanted) ∙ sym (read_number d b.sound name named wanted buffer long n f))
+        ∙ ((λ i. sheet_number (sym b.record_is i) (sym cut i) wanted) ∙ sym (read_number_lem d b.sound name named wanted buffer long n f))
 
     pub verify_unwanted : (n ≡ 0 → ⊥) → refused_text n 0 0 ≡ verify_text table sheet wanted
     unfolding verify_text

@@ -1,4 +1,6 @@
 // What the programs checksum, verify and dump print of a board: files in, text out. No public call here has a `requires`.
+#![tactic(auto)]
+
 mod checksums;
 mod dumps;
 mod verdicts;

@@ -17,7 +17,7 @@ use Rattle.words.specs.Word.{is_word}
 use Rattle.words.specs.LawsChoice.{pick_true, pick_false, both, first_holds, second_holds, true_not_false}
 use Rattle.words.specs.LawsTests.{fails, by_test}
 use Rattle.words.specs.LawsLists.{get_d_past}
-use Rattle.words.specs.LawsWord.{is_word, word_lt}
+use Rattle.words.specs.LawsWord.{is_word_lem, word_lt}
 use Rattle.numerals.specs.Text.{tab, lf}
 use Rattle.numerals.specs.Hex.{within, capital_of, word_by, word_text}
 use Rattle.numerals.specs.LawsHex.{length_word_text, within_low}
@@ -199,7 +199,7 @@ module _ (t : List ℕ) where
   line_of : id_in t < 0x4000 → kind ≡ true → Stands 0 (line_in t) t → length (line_in t) ≤ length t → line_ok t ≡ true
   unfolding line_ok kind again
   line_of small k p h =
-      both (is_word (id_in t) && kind) again (both (is_word (id_in t)) kind (is_word (id_in t) small) k)
+      both (is_word (id_in t) && kind) again (both (is_word (id_in t)) kind (is_word_lem (id_in t) small) k)
       (ap (λ s. same_text s (line_in t)) (stands_front (line_in t) t p h) ∙ same_self (line_in t))
 
   module _ (small : id_in t < 0x4000) where

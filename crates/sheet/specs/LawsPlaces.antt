@@ -14,11 +14,11 @@ use Rattle.numerals.specs.Hex.{capital_of, word_by}
 use Rattle.words.specs.Address.{config_base}
 use Rattle.words.specs.LawsChoice.{both, first_holds, second_holds, same_test}
 use Rattle.words.specs.LawsLists.{every_at, every_all}
-use Rattle.words.specs.LawsWord.{is_word, word_lt, words_each, words_of_lem}
+use Rattle.words.specs.LawsWord.{is_word_lem, word_lt, words_each, words_of_lem}
 use Rattle.device.specs.declared.Device.{Device}
 use Rattle.device.specs.Record.{device_ok}
 use Rattle.device.specs.Memory.{reading_tail, reading_ok}
-use Rattle.device.specs.LawsRecord.{Rules, rules, words_eighths}
+use Rattle.device.specs.LawsRecord.{Rules, rules_lem, words_eighths}
 use Rattle.sheet.specs.FirstLine.{same_text}
 use Rattle.sheet.specs.Sheet.{body_text, body_length, body_words, body_ok}
 use Rattle.sheet.specs.LawsStands.{stands_self, stands_whole, stands_word, word_stands, same_self}
@@ -69,7 +69,7 @@ module _ (t : List ℕ) (at : ℕ) where
   pub is_field : FieldIs t at → field_ok t at ≡ true
   unfolding field_ok
   is_field p =
-      both (eqb (get_or t at 0) tab) (is_word (word_by capital_of t (at + 1))) (eq-eqb (get_or t at 0) tab p.tab_here) (is_word (word_by capital_of t (at + 1)) p.word_small)
+      both (eqb (get_or t at 0) tab) (is_word (word_by capital_of t (at + 1))) (eq-eqb (get_or t at 0) tab p.tab_here) (is_word_lem (word_by capital_of t (at + 1)) p.word_small)
 
 -- what a line's test tells
 pub record LineIs (text : List ℕ) (at address count : ℕ) : Type 0 where
@@ -167,7 +167,7 @@ module _ (d : Device) (sound : device_ok d ≡ true) (t : List ℕ) where
   read = body_words d.words t
 
   kept : Rules d
-  kept = rules d sound
+  kept = rules_lem d sound
 
   eighths : d.words % 8 ≡ 0
   eighths = words_eighths d kept

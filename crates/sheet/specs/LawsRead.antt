@@ -20,7 +20,7 @@ use Rattle.words.specs.LawsWord.{words_each}
 use Rattle.device.specs.declared.Device.{Device}
 use Rattle.device.specs.Record.{most_words, device_ok, fits}
 use Rattle.device.specs.Memory.{reading_tail, reading_ok}
-use Rattle.device.specs.LawsRecord.{rules}
+use Rattle.device.specs.LawsRecord.{rules_lem}
 use Rattle.table.specs.Table.{name_ok}
 use Rattle.judge.specs.declared.Sum.{Sum}
 use Rattle.judge.specs.Checksum.{checksum_of, summed}
@@ -209,7 +209,7 @@ longest_reading = most_words + reading_tail
 
 module _ (d : Device) (sound : device_ok d ≡ true) where
   pub aside_room : d.words + reading_tail ≤ length (replicate {A = ℕ} longest_reading 0)
-  aside_room = let few : d.words ≤ most_words = (rules d sound).most in rw (length-replicate {A = ℕ} longest_reading 0) (omega arith)
+  aside_room = let few : d.words ≤ most_words = (rules_lem d sound).most in rw (length-replicate {A = ℕ} longest_reading 0) (omega arith)
 
   pub aside_long : length (take (d.words + reading_tail) (replicate {A = ℕ} longest_reading 0)) ≡ d.words + reading_tail
   aside_long = length-take-le (d.words + reading_tail) (replicate {A = ℕ} longest_reading 0) aside_room

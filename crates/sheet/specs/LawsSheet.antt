@@ -14,7 +14,7 @@ use Rattle.numerals.specs.Text.{tab, lf}
 use Rattle.device.specs.declared.Device.{Device}
 use Rattle.device.specs.Record.{device_ok, fits}
 use Rattle.device.specs.Memory.{reading_tail, reading_ok}
-use Rattle.device.specs.LawsRecord.{rules, words_eighths}
+use Rattle.device.specs.LawsRecord.{rules_lem, words_eighths}
 use Rattle.device.specs.LawsId.{fits_word}
 use Rattle.table.specs.Table.{name_ok}
 use Rattle.judge.specs.Checksum.{checksum_of}
@@ -44,7 +44,7 @@ pub record ReadNew (id : ℕ) (name : List ℕ) (sum : ℕ) (d : Device) (l t : 
 
 module _ (d : Device) (sound : device_ok d ≡ true) (id : ℕ) (good : fits d id ≡ true) (l : List ℕ) (ok : reading_ok d.words l ≡ true) where
   eighths : d.words % 8 ≡ 0
-  eighths = words_eighths d (rules d sound)
+  eighths = words_eighths d (rules_lem d sound)
 
   -- lines 2 and on, wherever they follow a line 1 with that ID
   sheet_of : (t : List ℕ) → line_ok t ≡ true → id_in t ≡ id → rest_in t ≡ body_text d.words l → (sheet_ok d t ≡ true) × (words_in d.words t ≡ l)

@@ -1,4 +1,6 @@
 // Board sheets of either form, read. No call here has a `requires`.
+#![tactic(auto)]
+
 mod body;
 mod first;
 mod read;

@@ -5,7 +5,7 @@ use Rattle.std.proofs.Common.{inl, inr}
 use Rattle.device.specs.declared.Device.{Device}
 use Rattle.device.specs.Record.{device_ok, fits}
 use Rattle.device.specs.Memory.{reading_ok}
-use Rattle.device.specs.LawsRecord.{rules}
+use Rattle.device.specs.LawsRecord.{rules_lem}
 use Rattle.device.specs.LawsId.{fits_own}
 use Rattle.table.specs.Table.{name_ok}
 use Rattle.judge.specs.Checksum.{checksum_of}
@@ -15,7 +15,7 @@ use Rattle.sheetwrite.specs.Write.{sheet_text, new_text}
 
 module _ (d : Device) (sound : device_ok d ≡ true) (name : List ℕ) (named : name_ok name ≡ true) (l : List ℕ) (ok : reading_ok d.words l ≡ true) where
   own : fits d d.id ≡ true
-  own = fits_own d (rules d sound).id_word
+  own = fits_own d (rules_lem d sound).id_word
 
   -- the old form
   pub own_read : (sheet_number d name (sheet_text d l) ≡ 0) × (words_in d.words (sheet_text d l) ≡ l)

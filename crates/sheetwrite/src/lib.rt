@@ -1,4 +1,6 @@
 // Board sheets, written in either form. No call here has a `requires`.
+#![tactic(auto)]
+
 mod write;
 
 pub use write::{write_new_sheet, write_sheet};

@@ -12,7 +12,7 @@ use Rattle.words.specs.LawsWord.{bit_and_lem, bit_high, same_bits, high_bits}
 use Rattle.words.specs.LawsMask.{bit_lt, bit_or_lem}
 use Rattle.device.specs.declared.Device.{Device}
 use Rattle.device.specs.Record.{most_words, fits}
-use Rattle.device.specs.LawsRecord.{rules}
+use Rattle.device.specs.LawsRecord.{rules_lem}
 use Rattle.device.specs.LawsId.{fits_same, fits_of}
 use Rattle.table.specs.Table.{device_of, line_up_to, table_lines, ends_in_lf, lines_up_to, clash, clashes, ids_once, most_lines, table_up_to, table_ok}
 use Rattle.table.specs.LawsTable.{line_device}
@@ -147,7 +147,7 @@ pub record FitsTwo (lines : List (List ℕ)) : Type 0 where
 sound_id : (ls : List (List ℕ)) → lines_up_to most_words ls ≡ true → (k : ℕ) → k < length ls → (device_of (get_or ls k [])).id < 0x4000
 unfolding lines_up_to
 sound_id [] a k h = absurd (not-suc-le-zero h)
-sound_id (l ∷ ls) a zero h = (rules (device_of l) (line_device l (first_holds (line_up_to most_words l) (lines_up_to most_words ls) a))).id_word
+sound_id (l ∷ ls) a zero h = (rules_lem (device_of l) (line_device l (first_holds (line_up_to most_words l) (lines_up_to most_words ls) a))).id_word
 sound_id (l ∷ ls) a (suc k) h = sound_id ls (second_holds (line_up_to most_words l) (lines_up_to most_words ls) a) k (le_of_suc-le-suc h)
 
 -- the line that a device clashes with

@@ -22,7 +22,7 @@ use Rattle.numerals.specs.LawsHex.{within_yes, within_low, within_high}
 use Rattle.numerals.specs.LawsDecimal.{decimal_read, decimal_value}
 use Rattle.device.specs.declared.Device.{Device}
 use Rattle.device.specs.Record.{most_words, device_ok, fits}
-use Rattle.device.specs.LawsRecord.{Rules, Row, rules, breaks, row}
+use Rattle.device.specs.LawsRecord.{Rules, Row, rules_lem, breaks, row}
 use Rattle.device.specs.LawsId.{fits_low}
 use Rattle.numerals.specs.Text.{tab, split}
 use Rattle.numerals.specs.LawsText.{split_at, split_whole, part, part_found, part_last, some_piece}
@@ -304,7 +304,7 @@ module _ (f1 f2 f3 f4 f5 : List ℕ) (g : List (List ℕ)) where
 
   read_rules : device_ok numbers ≡ true → (kinds ≡ true) × (numbers ≡ plain)
   read_rules e =
-      let r : Rules numbers = rules numbers e in
+      let r : Rules numbers = rules_lem numbers e in
       let v : Row (decimal_of 32 f3) = row (decimal_of 32 f3) r.row_is in
       let w = decimal_read most_words f2 r.most in
       let u = decimal_read 32 f3 v.high in
@@ -322,7 +322,7 @@ module _ (f1 f2 f3 f4 f5 : List ℕ) (g : List (List ℕ)) where
       let e3 : (k1 && is_decimal f2 && is_decimal f3) ≡ true = first_holds (k1 && is_decimal f2 && is_decimal f3) (hex_ok f4) e4 in
       let e2 : (k1 && is_decimal f2) ≡ true = first_holds (k1 && is_decimal f2) (is_decimal f3) e3 in
       let kept : device_ok plain ≡ true = second_holds k5 (device_ok plain) e in
-      let r : Rules plain = rules plain kept in
+      let r : Rules plain = rules_lem plain kept in
       let v : Row (value_of f3) = row (value_of f3) r.row_is in
       let w : decimal_of most_words f2 ≡ value_of f2 = decimal_value most_words f2 (second_holds k1 (is_decimal f2) e2) r.most in
       let u : decimal_of 32 f3 ≡ value_of f3 = decimal_value 32 f3 (second_holds (k1 && is_decimal f2) (is_decimal f3) e3) v.high in

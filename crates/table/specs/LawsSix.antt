@@ -12,12 +12,12 @@ use Rattle.words.specs.Choice.{pick, unless}
 use Rattle.words.specs.Word.{erased, is_word, bit}
 use Rattle.words.specs.LawsChoice.{pick_true, pick_false, first_holds, second_holds, second_fails, first_fails, same_test}
 use Rattle.words.specs.LawsTests.{by_test}
-use Rattle.words.specs.LawsWord.{is_word, and_erased}
+use Rattle.words.specs.LawsWord.{is_word_lem, and_erased}
 use Rattle.numerals.specs.Text.{tab, split}
 use Rattle.numerals.specs.Decimal.{is_decimal, value_of}
 use Rattle.device.specs.declared.Device.{Device}
 use Rattle.device.specs.Record.{most_words, row_ok, words_up_to, device_up_to, fits}
-use Rattle.device.specs.LawsRecord.{rules}
+use Rattle.device.specs.LawsRecord.{rules_lem}
 use Rattle.device.specs.LawsId.{fits_whole}
 use Rattle.table.specs.declared.Found.{Found}
 use Rattle.table.specs.Table.{field, name_ok, hex_field, hex_ok, id_of, id_mask_of, device_of, count_ok, line_up_to, table_lines, most_lines, ends_in_lf, lines_up_to, clash, clashes, ids_once, table_up_to, table_ok, has_id, line_with, start_of, refused, given, found_up_to, found_in}
@@ -113,7 +113,7 @@ module _ (line : List ℕ) (six : eqb (length (split tab line)) 6 ≡ true) wher
   six_rules : device_up_to most_words (device_before line) ≡ rules_before (device_before line)
   unfolding device_up_to rules_before
   six_rules =
-      rw (ap is_word mask_whole ∙ is_word erased (omega arith))
+      rw (ap is_word mask_whole ∙ is_word_lem erased (omega arith))
       (by (row_ok b.row && words_up_to most_words b.words b.row && is_word b.id && is_word b.mask1 && is_word b.mask2) (eqb (bit b.mask1 7) 1))
     where
       b : Device
@@ -140,7 +140,7 @@ six_lines (l ∷ ls) s =
 
 module _ (l : List ℕ) (six : eqb (length (split tab l)) 6 ≡ true) (sound : line_up_to most_words l ≡ true) where
   id_small : (device_of l).id < 0x4000
-  id_small = (rules (device_of l) (line_device l sound)).id_word
+  id_small = (rules_lem (device_of l) (line_device l sound)).id_word
 
   id_is : (device_of l).id ≡ id_of l
   id_is = unfold device_of in refl

@@ -1,4 +1,6 @@
 // The device table (15, 16). No call here has a `requires`.
+#![tactic(auto)]
+
 mod line;
 mod table;
 

@@ -22,7 +22,7 @@ use Rattle.target.specs.Chip.{Chip, chip_of}
 use Rattle.target.specs.Effects.{locked, edit, in_program, at_erase, row_erased, bulk_erased, begin_written, latch_of, burnt, word_read}
 use Rattle.target.specs.LawsChip.{SoundChip, sound_chip}
 use Rattle.target.specs.LawsEdit.{edit_none, edit_range, edit_one, edit_ext, edit_then}
-use Rattle.target.specs.LawsHits.{in_program_lem, not_program, latch_within, row_within, at_erase, below_erase, above_erase}
+use Rattle.target.specs.LawsHits.{in_program_lem, not_program, latch_within, row_within, at_erase_lem, below_erase, above_erase}
 use Rattle.target.specs.LawsHits.{row_erased_program, row_erased_locked, row_erased_nowhere, row_erased_ids, bulk_erased_ids, bulk_erased_words}
 use Rattle.target.specs.LawsHits.{begin_written_program, begin_written_locked, begin_written_between, begin_written_not, begin_written_one}
 
@@ -64,7 +64,7 @@ module _ (chip : Chip) (s : SoundChip chip) (a : ℕ) (cells : List ℕ) where
 
   pub row_erase_ids : chip.row_erases_ids ≡ true → chip.words ≤ a → chip.base ≤ a → a < chip.base + chip.reading_tail
       → (after : List ℕ) → after ≡ overlay chip.words chip.ids (λ i. erased) cells → after ≡ edit (row_erased chip a cells) (λ i. erased) cells
-  row_erase_ids t h p q after f = f ∙ sym (edit_range _ _ cells chip.words chip.ids (λ i k. row_erased_ids chip s a cells i t (at_erase chip a p q) h))
+  row_erase_ids t h p q after f = f ∙ sym (edit_range _ _ cells chip.words chip.ids (λ i k. row_erased_ids chip s a cells i t (at_erase_lem chip a p q) h))
 
 -- ---- Bulk Erase: two ranges, and a third with the user IDs
 
@@ -91,7 +91,7 @@ module _ (chip : Chip) (first count : ℕ) (configs : (k : ℕ) → chip.is_conf
       g
       ∙ (ap (overlay chip.words chip.ids (λ i. erased)) both_ranges
       ∙ (edit_then (λ i. in_range 0 chip.words i || in_range (chip.words + first) count i) erased chip.words chip.ids cells
-      ∙ sym (edit_ext _ _ (λ i. erased) cells (λ i h. bulk_erased_ids chip first count configs a i (at_erase chip a p q)))))
+      ∙ sym (edit_ext _ _ (λ i. erased) cells (λ i h. bulk_erased_ids chip first count configs a i (at_erase_lem chip a p q)))))
 
 -- ---- Begin
 

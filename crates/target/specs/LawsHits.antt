@@ -22,9 +22,9 @@ module _ (chip : Chip) (a : ℕ) where
   unfolding in_program
   not_program h = le-ltb a chip.words h
 
-  pub at_erase : chip.base ≤ a → a < chip.base + chip.reading_tail → at_erase chip a ≡ true
+  pub at_erase_lem : chip.base ≤ a → a < chip.base + chip.reading_tail → at_erase chip a ≡ true
   unfolding at_erase
-  at_erase p q = in_range_lem chip.base chip.reading_tail a p q
+  at_erase_lem p q = in_range_lem chip.base chip.reading_tail a p q
 
   pub below_erase : a < chip.base → at_erase chip a ≡ false
   unfolding at_erase

@@ -10,7 +10,7 @@ use Rattle.words.specs.Choice.{pick}
 use Rattle.words.specs.LawsChoice.{pick_map}
 use Rattle.device.specs.declared.Device.{Device}
 use Rattle.device.specs.Record.{device_ok}
-use Rattle.device.specs.LawsRecord.{rules}
+use Rattle.device.specs.LawsRecord.{rules_lem}
 use Rattle.target.specs.Chip.{Chip, chip_of}
 use Rattle.target.specs.Effects.{word_read}
 use Rattle.target.specs.Model.{Effect, done, stops, code_at, payload_at, Run, turn, after}
@@ -88,7 +88,7 @@ module _ (d : Device) (ok : device_ok d ≡ true) (stream cells words : List ℕ
   entered_run = stands (unread (entered (chip_of d)) cells words) 0 0
 
   called_none : sound_cells (chip_of d) cells ≡ true → Called d stream cells words 0 (entered (chip_of d)) cells [] words
-  called_none s = record { calls = none; sound_cells_lem = s; sound_latches_lem = (unfold entered in latch_blank (chip_of d) (sound_chip d (rules d ok))) }
+  called_none s = record { calls = none; sound_cells_lem = s; sound_latches_lem = (unfold entered in latch_blank (chip_of d) (sound_chip d (rules_lem d ok))) }
 
   module _ (k : ℕ) (r : Registers) (c got left : List ℕ) (so : Called d stream cells words k r c got left) where
     -- what the next call does
@@ -114,7 +114,7 @@ module _ (d : Device) (ok : device_ok d ≡ true) (stream cells words : List ℕ
         record {
           calls = next so.calls (record { answers = sym z; registers = refl; words_read = refl; cells_left = refl });
           sound_cells_lem = rw is_step (cells_stay (chip_of d) (burning d) (target r 0 left c) here so.sound_cells_lem);
-          sound_latches_lem = rw is_step (latches_stay (chip_of d) (sound_chip d (rules d ok)) (target r 0 left c) here (decoded_fits (code_at stream k) (payload_at stream k)) so.sound_latches_lem);
+          sound_latches_lem = rw is_step (latches_stay (chip_of d) (sound_chip d (rules_lem d ok)) (target r 0 left c) here (decoded_fits (code_at stream k) (payload_at stream k)) so.sound_latches_lem);
         }
 
     -- the words that it read go to those that have been read

@@ -5,7 +5,7 @@ use Rattle.std.proofs.Common.{sym, ap, ◌∙◌}
 use Rattle.words.specs.Choice.{pick}
 use Rattle.words.specs.Word.{is_word}
 use Rattle.words.specs.LawsLists.{every_all, every_no}
-use Rattle.words.specs.LawsWord.{is_word, not_word}
+use Rattle.words.specs.LawsWord.{is_word_lem, not_word}
 use Rattle.words.specs.declared.WordAddress.{WordAddress}
 use Rattle.device.specs.declared.Device.{Device}
 use Rattle.device.specs.Record.{device_ok}
@@ -48,7 +48,7 @@ module _ (chip : Chip) (s : Decoded) (r : Registers) (read : ℕ) (words cells :
 module _ (chip : Chip) (latches : List ℕ) where
   pub latches_ok : ((i : ℕ) → i < chip.group → get_or latches i 0 < 0x4000) → sound_latches chip latches ≡ true
   unfolding sound_latches
-  latches_ok h = every_all chip.group (λ i. is_word (get_or latches i 0)) (λ i p. is_word (get_or latches i 0) (h i p))
+  latches_ok h = every_all chip.group (λ i. is_word (get_or latches i 0)) (λ i p. is_word_lem (get_or latches i 0) (h i p))
 
   pub latch_high : (i : ℕ) → i < chip.group → 0x4000 ≤ get_or latches i 0 → sound_latches chip latches ≡ false
   unfolding sound_latches

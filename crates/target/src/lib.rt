@@ -1,4 +1,6 @@
 // The target model: what a board does with each step. No public call here has a `requires`.
+#![tactic(auto)]
+
 mod carried;
 mod cells;
 mod decode;

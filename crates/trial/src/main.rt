@@ -1,4 +1,6 @@
 // Plays a printed stream on the model of a board and prints the sheet afterwards, or why it is refused: device.tab, board.txt and stream.txt, or the three files that the arguments name.
+#![tactic(auto)]
+
 fn main() {
     let mut table = io::buffer();
     let t = files::read(files::open(1, b"device.tab"), &mut table);

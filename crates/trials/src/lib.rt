@@ -1,4 +1,6 @@
 // What the program trial prints: files in, the sheet after a printed stream was played on the model out. No public call here has a `requires`.
+#![tactic(auto)]
+
 mod played;
 mod typed;
 

@@ -1,4 +1,6 @@
 // Prints the steps that bring a board to a HEX file's words, or why they are refused: device.tab, board.txt and new.hex, or the three files that the arguments name.
+#![tactic(auto)]
+
 fn main() {
     let mut table = io::buffer();
     let t = files::read(files::open(1, b"device.tab"), &mut table);

@@ -1,4 +1,6 @@
 // Prints how a board's sheet differs from the wanted one, or why it is refused: device.tab, board.txt and wanted.txt, or the three files that the arguments name.
+#![tactic(auto)]
+
 fn main() {
     let mut table = io::buffer();
     let t = files::read(files::open(1, b"device.tab"), &mut table);

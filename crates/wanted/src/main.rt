@@ -1,4 +1,6 @@
 // Prints the sheet that an update is to leave, or why it is refused: device.tab, board.txt and new.hex, or the three files that the arguments name.
+#![tactic(auto)]
+
 fn main() {
     let mut table = io::buffer();
     let t = files::read(files::open(1, b"device.tab"), &mut table);

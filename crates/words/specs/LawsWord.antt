@@ -15,9 +15,9 @@ use Rattle.words.specs.Word.{erased, is_word, bit, Between, words_of}
 
 -- ---- what 14 bits hold
 
-pub is_word : (w : ℕ) → w < 0x4000 → is_word w ≡ true
+pub is_word_lem : (w : ℕ) → w < 0x4000 → is_word w ≡ true
 unfolding is_word
-is_word w h = lt-ltb w 0x4000 h
+is_word_lem w h = lt-ltb w 0x4000 h
 
 pub not_word : (w : ℕ) → 0x4000 ≤ w → is_word w ≡ false
 unfolding is_word
@@ -162,7 +162,7 @@ module _ (n : ℕ) (l : List ℕ) where
 
   pub words_of_lem : length l ≡ n → ((i : ℕ) → i < n → get_or l i 0 < 0x4000) → words_of n l ≡ true
   unfolding words_of
-  words_of_lem e h = both (eqb (length l) n) _ (eq-eqb (length l) n e) (every_all n (λ i. is_word (get_or l i 0)) (λ i p. is_word (get_or l i 0) (h i p)))
+  words_of_lem e h = both (eqb (length l) n) _ (eq-eqb (length l) n e) (every_all n (λ i. is_word (get_or l i 0)) (λ i p. is_word_lem (get_or l i 0) (h i p)))
 
   pub words_short : (length l ≡ n → ⊥) → words_of n l ≡ false
   unfolding words_of

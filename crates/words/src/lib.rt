@@ -1,4 +1,6 @@
 // Words of the target, and the two kinds of address. No call here has a `requires`.
+#![tactic(auto)]
+
 pub mod address;
 pub mod list;
 

@@ -1,1 +1,3 @@
 // The worked cases.
+#![tactic(auto)]
+

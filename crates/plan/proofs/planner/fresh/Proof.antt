@@ -1,7 +1,7 @@
 -- A refusal, a buffer that is too short, or the stream.
 use native.Mathlib.Omega.{arith}
 use mathlib.Core.Path.{sym, ◌∙◌}
-use Rattle.device.specs.LawsRecord.{rules}
+use Rattle.device.specs.LawsRecord.{rules_lem}
 use Rattle.plan.specs.LawsPlan.{plans_refused, plans_short, plans_done}
 use Rattle.aim.specs.LawsAccepted.{accepted_fresh}
 use Rattle.plan.specs.LawsPlanSource.{fresh_source}
@@ -17,7 +17,7 @@ returns : tie.Need-returns
 returns c = search (plans_refused, rules)
 
 fresh_length_requires : tie.Need-fresh-length-requires
-fresh_length_requires c κs = rules _ (accepted_fresh _ _ _ (sym c.before.fresh_refusal.ensures ∙ c.if1.left)).device
+fresh_length_requires c κs = rules_lem _ (accepted_fresh _ _ _ (sym c.before.fresh_refusal.ensures ∙ c.if1.left)).device
 
 mul_if2 : tie.Need-mul-if2
 mul_if2 c = search rules
@@ -27,7 +27,7 @@ returns_2 c = plans_short _ _ _ _ _ c.before.before.before.fresh_refusal.ensures
 
 put_fresh_requires : tie.Need-put-fresh-requires
 put_fresh_requires c κs = let s = accepted_fresh _ _ _ (sym c.before.before.before.before.fresh_refusal.ensures ∙ c.before.before.before.if1.left) in
-    (rules _ s.device, (fresh_source _ _ s.image_sound, room_whole _ _ _ c.before.before.fresh-length.ensures.is (omega arith) c.before.if2.left))
+    (rules_lem _ s.device, (fresh_source _ _ s.image_sound, room_whole _ _ _ c.before.before.fresh-length.ensures.is (omega arith) c.before.if2.left))
 
 same_length : tie.Need-same-length
 same_length c = search rules

@@ -1,7 +1,7 @@
 -- A refusal, a buffer that is too short, or the stream.
 use native.Mathlib.Omega.{arith}
 use mathlib.Core.Path.{sym, ◌∙◌}
-use Rattle.device.specs.LawsRecord.{rules}
+use Rattle.device.specs.LawsRecord.{rules_lem}
 use Rattle.plan.specs.LawsPlan.{plans_refused, plans_short, plans_done}
 use Rattle.aim.specs.LawsAccepted.{accepted}
 use Rattle.plan.specs.LawsPlanSource.{update_source}
@@ -17,7 +17,7 @@ returns : tie.Need-returns
 returns c = search (plans_refused, rules)
 
 update_length_requires : tie.Need-update-length-requires
-update_length_requires c κs = rules _ (accepted _ _ _ (sym c.before.update_refusal.ensures ∙ c.if1.left)).device
+update_length_requires c κs = rules_lem _ (accepted _ _ _ (sym c.before.update_refusal.ensures ∙ c.if1.left)).device
 
 mul_if2 : tie.Need-mul-if2
 mul_if2 c = search rules
@@ -27,7 +27,7 @@ returns_2 c = plans_short _ _ _ _ _ c.before.before.before.update_refusal.ensure
 
 put_update_requires : tie.Need-put-update-requires
 put_update_requires c κs = let s = accepted _ _ _ (sym c.before.before.before.before.update_refusal.ensures ∙ c.before.before.before.if1.left) in (
-  rules _ s.device,
+  rules_lem _ s.device,
   (update_source _ _ _ s.image_sound s.reading_sound, room_whole _ _ _ c.before.before.update-length.ensures.is (omega arith) c.before.if2.left),
 )
 

@@ -1,7 +1,7 @@
 -- Line 1, the other lines, and in the new form its name and sum.
 use mathlib.Core.Path.{sym, ◌∙◌}
 use native.Mathlib.Omega.{arith}
-use Rattle.device.specs.LawsRecord.{rules}
+use Rattle.device.specs.LawsRecord.{rules_lem}
 use Rattle.sheet.specs.LawsRead.{text_no_line, text_no_fit, text_no_body, text_good, text_old, text_new}
 use borrow.Author.Rules.{rules}
 use Rattle.sheet.proofs.read.judge_text.Statement.{statement}
@@ -29,7 +29,7 @@ part_places_ok_end : tie.Need-part-places-ok-end
 part_places_ok_end c = search rules
 
 places_ok_requires : tie.Need-places-ok-requires
-places_ok_requires c κs = (rules _ c.before.before.before.before.before.before.before.pre).most
+places_ok_requires c κs = (rules_lem _ c.before.before.before.before.before.before.before.pre).most
 
 returns_3 : tie.Need-returns-3
 returns_3 c = text_no_body _ _ _ _ _ _ _ _ _ c.before.before.before.before.before.before.read-line.ensures c.before.before.before.before.before.if1.taken

@@ -1,6 +1,6 @@
 -- The words are stored aside and summed.
 use mathlib.Core.Path.{sym}
-use Rattle.device.specs.LawsRecord.{rules}
+use Rattle.device.specs.LawsRecord.{rules_lem}
 use Rattle.sheet.specs.LawsBody.{body_sound}
 use Rattle.sheet.specs.LawsRead.{aside_room, aside_long, stored_within, stored_long, sum_of_stored}
 use borrow.Author.Rules.{rules}
@@ -20,7 +20,7 @@ slice_aggregate_store : tie.Need-slice-aggregate-store
 slice_aggregate_store c = sym (aside_long _ c.before.before.before.pre.0)
 
 store_requires : tie.Need-store-requires
-store_requires c κs = ((rules _ c.before.before.before.pre.0).most, aside_long _ c.before.before.before.pre.0, body_sound _ _ c.before.before.before.pre.1)
+store_requires c κs = ((rules_lem _ c.before.before.before.pre.0).most, aside_long _ c.before.before.before.pre.0, body_sound _ _ c.before.before.before.pre.1)
 
 array_share_prefix_words : tie.Need-array-share-prefix-words
 array_share_prefix_words c = stored_within _ c.before.before.before.before.before.pre.0 _ c.before.before.before.before.before.pre.1 _ c.before.store.ensures _

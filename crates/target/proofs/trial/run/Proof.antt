@@ -1,7 +1,7 @@
 -- What stops a run before its first step, and then its steps.
 use Rattle.target.specs.LawsRun.{cells_long}
 use mathlib.Core.Path.{sym, ◌∙◌}
-use Rattle.device.specs.LawsRecord.{rules}
+use Rattle.device.specs.LawsRecord.{rules_lem}
 use Rattle.target.specs.LawsRun.{run_refused, run_goes, before_sound, enough}
 use borrow.Author.Rules.{rules}
 use Rattle.target.proofs.trial.run.Statement.{statement}
@@ -21,7 +21,7 @@ least_requires c κs = search rules
 
 go_requires : tie.Need-go-requires
 go_requires c κs = let s = before_sound _ _ _ (sym c.before.before.before.before.refusal-before.ensures ∙ c.before.before.before.if1.left) in
-    (rules _ s.0, (cells_long _ _ s.1, rw c.before.least.ensures (enough _ _)))
+    (rules_lem _ s.0, (cells_long _ _ s.1, rw c.before.least.ensures (enough _ _)))
 
 same_length_2 : tie.Need-same-length-2
 same_length_2 c = search rules

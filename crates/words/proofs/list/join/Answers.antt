@@ -1,0 +1,19 @@
+-- The bits of the entries passed are joined.
+use Prim.Native.Nat.{◌≤◌, ◌-◌}
+use mathlib.Core.Path.{refl}
+use native.Mathlib.Omega.{arith}
+use borrow.Author.Rules.{rules}
+use lib.ListN.{length, get_or}
+use Rattle.words.specs.LawsJoined.{Joined, joined_none, joined_more, joined_end}
+use Rattle.words.proofs.list.join.Reads as reads
+use Rattle.words.proofs.list.join.Lts as lts
+use Rattle.words.proofs.list.join.Goals as goal
+
+pub loop-i-init : goal.loop-i-init
+loop-i-init c = (omega arith, joined_none _)
+
+pub loop-i-preserved : goal.loop-i-preserved
+loop-i-preserved c = (omega arith, joined_more _ _ _ c.loop-i.invariant.1 _ refl)
+
+pub returns : goal.returns
+returns c = joined_end _ _ _ _ c.loop-i.invariant.1 (omega arith)

@@ -1,0 +1,16 @@
+-- The bits of the entries passed are joined.
+use Prim.Native.Nat.{◌≤◌, ◌-◌}
+use mathlib.Core.Path.{refl}
+use native.Mathlib.Omega.{arith}
+use borrow.Author.Rules.{rules}
+use lib.ListN.{length, get_or}
+use Rattle.words.specs.LawsJoined.{Joined, joined_none, joined_more, joined_end}
+use Rattle.words.proofs.list.join.Reads as reads
+use Rattle.words.proofs.list.join.Lts as lts
+use Rattle.words.proofs.list.join.Given as goal
+
+abbrev pub invariant-loop-i : goal.invariant-loop-i
+invariant-loop-i l = (l.i ≤ length l.l) × Joined l.i (λ k. get_or l.l k 0) l.all
+
+abbrev pub decreases-loop-i : goal.decreases-loop-i
+decreases-loop-i l = length l.l - l.i
