@@ -74,7 +74,7 @@ fn answer_next(
 ) -> Reached {
     if have <= text.len() {
         if at < have {
-            let stop = bytes::scan::find(text, at, have, LF);
+            let stop = marks::find(text, at, have, LF);
             if stop < have {
                 let end = request::answer(&text[at..stop], a, w, v, out);
                 return Reached {

@@ -8,7 +8,7 @@ pub const UNKNOWN: usize = usize::MAX - 1;
 pub fn before(text: &[u8], mark: u8) -> usize
     ensures { IsPrefixLen result text.now }
 {
-    bytes::scan::find(text, 0, text.len(), mark)
+    marks::find(text, 0, text.len(), mark)
 }
 
 // The place of a name among names that are parted by spaces, from 0; UNKNOWN if it is none of them.
@@ -16,7 +16,7 @@ pub fn place(names: &[u8], name: &[u8]) -> usize {
     let mut at = 0;
     let mut k = 0;
     while at < names.len() {
-        let stop = bytes::scan::find(names, at, names.len(), b' ');
+        let stop = marks::find(names, at, names.len(), b' ');
         if is_same(&names[at..stop], name) {
             return k;
         }

@@ -7,7 +7,7 @@ use Rattle.std.proofs.Common.{◌∙◌, inl, inr, take_all, take-take, eq-eqb, 
 use Rattle.std.proofs.Math.Bool.{false}
 use Rattle.std.proofs.Math.ListN.{length, take, length-drop}
 use Rattle.std.proofs.Math.Seq.{take-length, length-take-le}
-use Rattle.bytes.specs.Bytes.{index_of, index_after, slice}
+use Rattle.marks.specs.Marks.{index_of, index_after, slice}
 use Rattle.words.specs.Choice.{pick}
 use Rattle.numerals.specs.Text.{lf, cr, split}
 use Rattle.numerals.specs.LawsText.{part, part_found, part_last}

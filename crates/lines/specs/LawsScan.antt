@@ -5,7 +5,7 @@ use Rattle.std.proofs.Math.Path.{sym}
 use Rattle.std.specs.Int.Bits.{bit_or}
 use Rattle.std.proofs.Math.Seq.{take-length}
 use borrow.Author.Tests.{ne_eqb}
-use Rattle.bytes.specs.Bytes.{index_of, index_after, slice}
+use Rattle.marks.specs.Marks.{index_of, index_after, slice}
 use Rattle.words.specs.LawsJoined.{or_none}
 use Rattle.numerals.specs.Text.{lf}
 use Rattle.lines.specs.Lines.{end_of}

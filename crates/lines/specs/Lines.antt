@@ -1,7 +1,7 @@
 -- The lines of a text, and taking them one after another ('HEX text'). Text is a list of bytes. Assumes nothing of the position and the number that a reader has.
 use Rattle.std.specs.Prelude.{ℕ, ◌+◌, ◌≡◌, List, [], ◌∷◌, ltb, eqb, length, drop}
 use Rattle.std.specs.Borrow.{Bor}
-use Rattle.bytes.specs.Bytes.{index_of}
+use Rattle.marks.specs.Marks.{index_of}
 use Rattle.words.specs.Choice.{pick}
 use Rattle.numerals.specs.Text.{lf, cr, split}
 use Rattle.lines.specs.declared.Lines.{Lines}

@@ -15,7 +15,7 @@ pub(crate) fn line_stop(text: &[u8], from: usize) -> usize
     ensures { (result ≡ end_of text.now from) × (result ≤ length text.now) }
 {
     let at = pass_eights(text, from);
-    bytes::scan::find(text, at, text.len(), LF)
+    marks::find(text, at, text.len(), LF)
 }
 
 // Passes eights of bytes without an LF. Answers where the search goes on.

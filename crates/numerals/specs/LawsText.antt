@@ -7,7 +7,7 @@ use Rattle.std.proofs.Math.Bool.{true, false}
 use mathlib.Core.List.{List, [], ◌∷◌}
 use Rattle.std.proofs.Math.ListN.{length, take, length-drop}
 use Rattle.std.proofs.Math.Seq.{take-length}
-use Rattle.bytes.specs.Bytes.{index_of, index_after, slice}
+use Rattle.marks.specs.Marks.{index_of, index_after, slice}
 use Rattle.words.specs.Choice.{pick}
 use Rattle.numerals.specs.Text.{split, in_front}
 

@@ -1,6 +1,6 @@
 -- Line 1 of a sheet, which tells its two forms apart (#106; #107 for the ID). Text is a list of bytes.
 use Rattle.std.specs.Prelude.{ℕ, ◌+◌, Bool, true, false, ◌&&◌, List, [], ◌∷◌, ◌++◌, ltb, eqb, length, get_or, take, drop}
-use Rattle.bytes.specs.Bytes.{index_of}
+use Rattle.marks.specs.Marks.{index_of}
 use Rattle.words.specs.Choice.{pick, unless}
 use Rattle.words.specs.Word.{is_word}
 use Rattle.numerals.specs.Text.{tab, lf}

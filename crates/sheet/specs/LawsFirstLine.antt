@@ -11,7 +11,7 @@ use Rattle.std.proofs.Math.Dec.{ltb, leb}
 use Rattle.std.proofs.Math.ListN.{length, take, drop, take-append-drop}
 use Rattle.std.proofs.Math.Seq.{take-length, length-take-le, take-append_seam, drop-append_seam, drop-append-add}
 use borrow.Author.Tests.{lt-ltb, ltb-true, eq-eqb, eqb-true, ne_eqb}
-use Rattle.bytes.specs.Bytes.{index_of, index_after, slice}
+use Rattle.marks.specs.Marks.{index_of, index_after, slice}
 use Rattle.words.specs.Choice.{pick}
 use Rattle.words.specs.Word.{is_word}
 use Rattle.words.specs.LawsChoice.{pick_true, pick_false, both, first_holds, second_holds, true_not_false}

@@ -56,7 +56,7 @@ fn read_fields(text: &[u8], id: u16) -> Head
     requires { (id ≡ id_in text.now) × (id < 0x4000) × (get_or text.now 4 0 ≡ tab) }
     ensures { HeadOf text.now result.ok result.new result.id result.end result.sum result.size }
 {
-    let end = bytes::scan::find(text, 5, text.len(), TAB);
+    let end = marks::find(text, 5, text.len(), TAB);
     if table::is_name(&text[5..end]) {} else {
         return NO_LINE;
     }

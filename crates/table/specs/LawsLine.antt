@@ -11,7 +11,7 @@ use Rattle.std.specs.Int.Bits.{bit_and}
 use Rattle.std.proofs.Math.ListN.{length, drop, length-drop}
 use Rattle.std.proofs.Math.Decide.{dec_lt}
 use borrow.Author.Tests.{lt-ltb, le-ltb, eq-eqb, ne_eqb, le-leb, lt-leb}
-use Rattle.bytes.specs.Bytes.{index_of, slice}
+use Rattle.marks.specs.Marks.{index_of, slice}
 use Rattle.words.specs.Choice.{pick}
 use Rattle.words.specs.Word.{erased}
 use Rattle.numerals.specs.Hex.{capital_of, word_by}

@@ -5,7 +5,7 @@ use Rattle.std.proofs.Math.Path.{refl, sym, ap}
 use Rattle.std.proofs.Math.Bool.{false}
 use Rattle.std.proofs.Math.ListN.{length, take}
 use Rattle.std.proofs.Math.Seq.{take-length, take-append_seam, drop-append-add}
-use Rattle.bytes.specs.Bytes.{index_of}
+use Rattle.marks.specs.Marks.{index_of}
 use Rattle.words.specs.Choice.{pick}
 use Rattle.words.specs.LawsChoice.{pick_true, pick_false, first_holds, second_holds, true_not_false}
 use Rattle.words.specs.LawsTests.{by_lt, by_test}

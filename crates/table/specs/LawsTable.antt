@@ -11,7 +11,7 @@ use Rattle.std.proofs.Math.Dec.{leb, eqb}
 use Rattle.std.proofs.Math.ListN.{length, take, length-drop}
 use Rattle.std.proofs.Math.Seq.{length-take-le}
 use borrow.Author.Tests.{ne_eqb, le-leb, lt-leb}
-use Rattle.bytes.specs.Bytes.{index_of, slice}
+use Rattle.marks.specs.Marks.{index_of, slice}
 use Rattle.words.specs.Choice.{pick}
 use Rattle.words.specs.LawsChoice.{pick_true, pick_false, first_holds, second_holds, first_fails, second_fails, true_not_false}
 use Rattle.device.specs.declared.Device.{Device}

@@ -84,11 +84,11 @@ fn read_fields(line: &[u8], a: usize, b: usize, c: usize, d: usize, e: usize, f:
 fn line_id(line: &[u8]) -> u32
     ensures { result ≡ id_of line.now }
 {
-    let a = bytes::scan::find(line, 0, line.len(), TAB);
+    let a = marks::find(line, 0, line.len(), TAB);
     if line.len() <= a {
         return 65536;
     }
-    let b = bytes::scan::find(line, a + 1, line.len(), TAB);
+    let b = marks::find(line, a + 1, line.len(), TAB);
     hex_field(&line[a + 1..b])
 }
 
@@ -128,27 +128,27 @@ fn cut(line: &[u8]) -> Tabs
     ensures { Cut line.now result.ok result.a result.b result.c result.d result.e result.f }
 {
     let n = line.len();
-    let a = bytes::scan::find(line, 0, n, TAB);
+    let a = marks::find(line, 0, n, TAB);
     if n <= a {
         return NO_TABS;
     }
-    let b = bytes::scan::find(line, a + 1, n, TAB);
+    let b = marks::find(line, a + 1, n, TAB);
     if n <= b {
         return NO_TABS;
     }
-    let c = bytes::scan::find(line, b + 1, n, TAB);
+    let c = marks::find(line, b + 1, n, TAB);
     if n <= c {
         return NO_TABS;
     }
-    let d = bytes::scan::find(line, c + 1, n, TAB);
+    let d = marks::find(line, c + 1, n, TAB);
     if n <= d {
         return NO_TABS;
     }
-    let e = bytes::scan::find(line, d + 1, n, TAB);
+    let e = marks::find(line, d + 1, n, TAB);
     if n <= e {
         return NO_TABS;
     }
-    let f = bytes::scan::find(line, e + 1, n, TAB);
+    let f = marks::find(line, e + 1, n, TAB);
     if one_more(line, f) {} else {
         return NO_TABS;
     }
@@ -171,7 +171,7 @@ fn one_more(line: &[u8], end: usize) -> bool
     if n <= end {
         return true;
     }
-    n <= bytes::scan::find(line, end + 1, n, TAB)
+    n <= marks::find(line, end + 1, n, TAB)
 }
 
 // The ID's mask after the sixth field, which ends here; every bit where nothing follows.

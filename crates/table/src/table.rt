@@ -26,7 +26,7 @@ pub fn judge_table(text: &[u8]) -> u8
     let mut at = 0;
     let mut lines: usize = 0;
     while at < text.len() {
-        let stop = bytes::scan::find(text, at, text.len(), LF);
+        let stop = marks::find(text, at, text.len(), LF);
         if text.len() <= stop {
             return 15;
         }
@@ -55,7 +55,7 @@ fn clash_after(text: &[u8], d: Device) -> bool
 {
     let mut at = 0;
     while at < text.len() {
-        let stop = bytes::scan::find(text, at, text.len(), LF);
+        let stop = marks::find(text, at, text.len(), LF);
         if text.len() <= stop {
             return false;
         }
@@ -96,7 +96,7 @@ fn seek(text: &[u8], id: u16) -> Spot
 {
     let mut at = 0;
     while at < text.len() {
-        let stop = bytes::scan::find(text, at, text.len(), LF);
+        let stop = marks::find(text, at, text.len(), LF);
         if text.len() <= stop {
             return NOT_FOUND;
         }

@@ -28,7 +28,7 @@ pub(crate) fn read_stream(text: &[u8], stream: &mut [u8]) -> Typed
     let mut at = 0;
     let mut steps: usize = 0;
     while at < text.len() {
-        let stop = bytes::scan::find(text, at, text.len(), LF);
+        let stop = marks::find(text, at, text.len(), LF);
         let line = (steps + 1) as u32;
         if MOST_STEPS <= steps {
             return Typed { line, steps };

@@ -1,0 +1,14 @@
+-- What is left to read, digit by digit.
+use Prim.Native.Nat.{◌≤◌, ◌-◌}
+use mathlib.Core.Path.{◌≡◌, refl, sym, ◌∙◌}
+use native.Mathlib.Omega.{arith}
+use lib.ListN.{length, drop}
+use borrow.Author.Rules.{rules}
+use Rattle.numerals.specs.LawsDecimal.{left_of, left_end, left_on, left_low, left_high, left_over}
+use Rattle.numerals.proofs.decimal.read_digits.Given as goal
+
+abbrev pub invariant-loop-i : goal.invariant-loop-i
+invariant-loop-i l = (l.i ≤ length l.s) × (l.value ≤ l.most) × (left_of l.most 0 l.s ≡ left_of l.most l.value (drop l.i l.s))
+
+abbrev pub decreases-loop-i : goal.decreases-loop-i
+decreases-loop-i l = length l.s - l.i
