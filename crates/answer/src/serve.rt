@@ -3,7 +3,7 @@ use crate::request;
 use ask_io::LF;
 
 // Where the next line begins, and its number; no line comes next where one was malformed.
-#[derive(Drop)]
+#[derive(Clone, Copy)]
 struct Reached {
     at: usize,
     line: u64,

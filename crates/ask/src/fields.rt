@@ -9,42 +9,42 @@ use device::Device;
 pub const NOWHERE: usize = usize::MAX;
 
 // A number of 64 bits.
-#[derive(Drop)]
+#[derive(Clone, Copy)]
 pub struct Of64 {
     pub value: u64,
     pub at: usize,
 }
 
 // A number of 32 bits.
-#[derive(Drop)]
+#[derive(Clone, Copy)]
 pub struct Of32 {
     pub value: u32,
     pub at: usize,
 }
 
 // A number of 16 bits.
-#[derive(Drop)]
+#[derive(Clone, Copy)]
 pub struct Of16 {
     pub value: u16,
     pub at: usize,
 }
 
 // A number of 8 bits.
-#[derive(Drop)]
+#[derive(Clone, Copy)]
 pub struct Of8 {
     pub value: u8,
     pub at: usize,
 }
 
 // A device record.
-#[derive(Drop)]
+#[derive(Clone, Copy)]
 pub struct Record {
     pub device: Device,
     pub at: usize,
 }
 
 // How many bytes or words were put at the start of a buffer.
-#[derive(Drop)]
+#[derive(Clone, Copy)]
 pub struct Taken {
     pub count: usize,
     pub at: usize,

@@ -18,7 +18,7 @@ pub const MOST_PROGRAM: u16 = 8192;
 pub const MOST_READING: usize = (MOST_PROGRAM as usize) + READING_TAIL;
 
 // A refusal's number, or 0; the record, and where its name stands in the table.
-#[derive(Drop)]
+#[derive(Clone, Copy)]
 pub struct Opened {
     pub number: u8,
     pub device: Device,

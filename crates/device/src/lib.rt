@@ -10,7 +10,7 @@ pub use memory::{is_protected, is_reading, programmable, under_mask};
 pub use record::{fits, judge};
 
 // A device: its ID word, program words P, row words R, the masks of the two configuration words, and the mask of the ID. Its name is the table's.
-#[derive(Drop)]
+#[derive(Clone, Copy)]
 pub struct Device {
     pub id: u16,
     pub words: u16,

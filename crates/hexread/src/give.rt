@@ -10,7 +10,7 @@ use device::READING_TAIL;
 use words::{ByteAddress, CONFIG_BASE, NOT_GIVEN, Place, WORD_LIMIT, WordAddress};
 
 // 0, or the first of 7, 8, 9 that holds, and the word that is refused; with 0, how many words there are.
-#[derive(Drop)]
+#[derive(Clone, Copy)]
 pub(crate) struct Given {
     pub number: u8,
     pub word: u8,

@@ -11,7 +11,7 @@ mod step;
 pub use read::read_hex;
 
 // 0, or the number of a refusal, the line that it stands at and the column in it, both from 1 and 0 where no line is to blame.
-#[derive(Drop)]
+#[derive(Clone, Copy)]
 pub struct ReadHex {
     pub number: u8,
     pub line: u32,

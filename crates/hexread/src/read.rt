@@ -66,7 +66,7 @@ fn read_text(words: u16, text: &[u8], image: &mut [u16]) -> ReadHex
 }
 
 // Where the lines stopped: 0, or a refusal, its line, and the refused word, for 7 to 9.
-#[derive(Drop)]
+#[derive(Clone, Copy)]
 struct Stop {
     number: u8,
     line: u32,

@@ -12,7 +12,7 @@ use crate::give_program::give_program;
 use crate::line::judge_line;
 
 // Where a reading stands after a line: the end record was seen, the upper half, and a refusal or 0. The word is the refused one, for 7 to 9.
-#[derive(Drop)]
+#[derive(Clone, Copy)]
 pub(crate) struct Step {
     pub ended: bool,
     pub upper: u32,

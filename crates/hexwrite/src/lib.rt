@@ -11,7 +11,7 @@ mod write_stop;
 pub use write::write_hex;
 
 // The length of the text that was written; or 13, 20 or 26, and nothing else.
-#[derive(Drop)]
+#[derive(Clone, Copy)]
 pub struct WrittenHex {
     pub number: u8,
     pub length: usize,

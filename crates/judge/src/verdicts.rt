@@ -12,7 +12,7 @@ use device::{Device, READING_TAIL};
 use words::{CONFIG_BASE, Place, WordAddress};
 
 // How many entries differ so far, and the first of them if there is one.
-#[derive(Drop)]
+#[derive(Clone, Copy)]
 struct Differences {
     count: usize,
     first: usize,

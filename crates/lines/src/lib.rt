@@ -11,7 +11,7 @@ use scan::{line_end, line_stop};
 const MOST_LINE: u32 = 0xffffffff;
 
 // A reader: the text, where its next line begins, and the number of the line taken last (0 before the first).
-#[derive(Drop)]
+#[derive(Clone, Copy)]
 pub struct Lines<'a> {
     pub text: &'a [u8],
     pub at: usize,
@@ -19,7 +19,7 @@ pub struct Lines<'a> {
 }
 
 // Where a line begins and ends, without the CR that belongs to its end; where the next one begins; and the line's number.
-#[derive(Drop)]
+#[derive(Clone, Copy)]
 pub struct NextLine {
     pub start: usize,
     pub stop: usize,

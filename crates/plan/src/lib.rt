@@ -10,7 +10,7 @@ mod rows;
 pub use planner::{fresh, read_back, update};
 
 // The number of steps that were written; or a refusal, and nothing else.
-#[derive(Drop)]
+#[derive(Clone, Copy)]
 pub struct Planned {
     pub number: u8,
     pub steps: usize,

@@ -8,7 +8,7 @@ use crate::{LF, TAB};
 use words::WORD_LIMIT;
 
 // Whether line 1 is of a form, whether of the new one, and its fields: where its name ends, and how long it is.
-#[derive(Drop)]
+#[derive(Clone, Copy)]
 pub(crate) struct Head {
     pub ok: bool,
     pub new: bool,

@@ -8,7 +8,7 @@ mod read;
 pub use read::{read_id, read_sheet};
 
 // The ID that a sheet's first line gives; or 14, and nothing else.
-#[derive(Drop)]
+#[derive(Clone, Copy)]
 pub struct Line1 {
     pub number: u8,
     pub id: u16,

@@ -6,7 +6,7 @@ mod write;
 pub use write::{write_new_sheet, write_sheet};
 
 // The length of the sheet that was written; or 13, 21 or 26, and nothing else.
-#[derive(Drop)]
+#[derive(Clone, Copy)]
 pub struct Written {
     pub number: u8,
     pub length: usize,

@@ -9,7 +9,7 @@ pub use line::is_name;
 pub use table::{find_device, judge_table};
 
 // The record of an ID, and where its name stands in the table's text; or 15 or 16, and nothing else.
-#[derive(Drop)]
+#[derive(Clone, Copy)]
 pub struct Found {
     pub number: u8,
     pub device: Device,

@@ -8,7 +8,7 @@ use device::{Device, MOST_WORDS, judge};
 use words::{ERASED, WORD_LIMIT};
 
 // Where the first five tabs of a line stand and where its sixth field ends, if it has six fields or seven.
-#[derive(Drop)]
+#[derive(Clone, Copy)]
 pub(crate) struct Tabs {
     pub ok: bool,
     pub a: usize,
@@ -20,14 +20,14 @@ pub(crate) struct Tabs {
 }
 
 // A device, if the numbers that it was made of keep the rules.
-#[derive(Drop)]
+#[derive(Clone, Copy)]
 pub(crate) struct Maybe {
     pub ok: bool,
     pub device: Device,
 }
 
 // What a line gives: a device and the length of its name, if the line keeps every rule.
-#[derive(Drop)]
+#[derive(Clone, Copy)]
 pub(crate) struct Line {
     pub ok: bool,
     pub name: usize,

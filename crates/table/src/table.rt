@@ -8,7 +8,7 @@ use crate::line::{line_clashes, line_fits, read_line, zero_device};
 use device::Device;
 
 // The line whose device an ID fits, if there is one.
-#[derive(Drop)]
+#[derive(Clone, Copy)]
 pub(crate) struct Spot {
     pub found: bool,
     pub at: usize,

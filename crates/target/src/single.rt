@@ -15,7 +15,7 @@ use device::{CELLS_TAIL, Device};
 use words::{CONFIG_BASE, ERASED, WORD_LIMIT, WordAddress};
 
 // What an order leaves beside the latches, the cells and the words: its refusal or 0, the counter, and how many words are read.
-#[derive(Drop)]
+#[derive(Clone, Copy)]
 pub(crate) struct Obeyed {
     pub number: u8,
     pub counter: WordAddress,

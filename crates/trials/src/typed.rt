@@ -15,7 +15,7 @@ pub(crate) const MOST_STEPS: usize = 32768;
 pub(crate) const MOST_BYTES: usize = 98304;
 
 // The first line that is no step, or is one too many, or 0; and the steps before it.
-#[derive(Drop)]
+#[derive(Clone, Copy)]
 pub(crate) struct Typed {
     pub line: u32,
     pub steps: usize,

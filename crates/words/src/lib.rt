@@ -5,15 +5,15 @@ pub mod address;
 pub mod list;
 
 // The address of a word of the target.
-#[derive(Drop)]
+#[derive(Clone, Copy)]
 pub struct WordAddress(pub u16);
 
 // The address of a byte of HEX text: wide enough that no sum of an upper half, an offset and a place wraps.
-#[derive(Drop)]
+#[derive(Clone, Copy)]
 pub struct ByteAddress(pub u64);
 
 // What leads to a word address may lead nowhere.
-#[derive(Drop)]
+#[derive(Clone, Copy)]
 pub enum Place {
     At(WordAddress),
     Nowhere,

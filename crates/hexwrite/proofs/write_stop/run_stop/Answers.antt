@@ -1,0 +1,20 @@
+-- The entries passed are given and in one block.
+use Rattle.hexwrite.specs.LawsWriteStop.{Going, going_first, going_on, run_gap, run_whole}
+use Prim.Native.Nat.{◌-◌}
+use native.Mathlib.Omega.{arith}
+use Rattle.hexwrite.proofs.write_stop.run_stop.Goals as goal
+
+pub block_stop-stop-requires : goal.block_stop-stop-requires
+block_stop-stop-requires c = (c.requires.0, c.requires.1)
+
+pub loop-i-init : goal.loop-i-init
+loop-i-init c = going_first _ _ _ c.block_stop-stop.ensures c.requires.2
+
+pub returns-then-image-i : goal.returns-then-image-i
+returns-then-image-i c = run_gap _ _ _ _ c.block_stop-stop.ensures c.loop-i.invariant c.loop-i-test.true c.if-image-i.true
+
+pub loop-i-preserved : goal.loop-i-preserved
+loop-i-preserved c = going_on _ _ _ _ c.block_stop-stop.ensures c.loop-i.invariant c.loop-i-test.true c.if-image-i.false
+
+pub returns : goal.returns
+returns c = run_whole _ _ _ _ c.block_stop-stop.ensures c.loop-i.invariant c.loop-i-test.false
