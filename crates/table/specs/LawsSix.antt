@@ -228,9 +228,9 @@ module _ (text : List ℕ) (six : all_six (table_lines text) ≡ true) where
   form : Bool
   form = ends_in_lf text && leb 1 (length (table_lines text)) && leb (length (table_lines text)) most_lines
 
-  table_before : table_ok text ≡ table_before text
+  table_before_lem : table_ok text ≡ table_before text
   unfolding table_ok table_up_to table_before form
-  table_before =
+  table_before_lem =
       ap (λ t. form && t && ids_once (table_lines text)) (six_lines (table_lines text) six)
       ∙ by_test (lines_before (table_lines text))
       (λ t. ap (λ o. form && lines_before (table_lines text) && o) (once_before_lem (table_lines text) six (six_lines (table_lines text) six ∙ t)))
@@ -250,15 +250,15 @@ module _ (text : List ℕ) (six : all_six (table_lines text) ≡ true) where
       (λ i. given (start_before_lem id (table_lines text) six a i) (with_before_lem id (table_lines text) six a i))
       ∙ rw (found_mask id (table_lines text) six)
 
-  found_before : (id : ℕ) → found_in text id ≡ found_before text id
+  found_before_lem : (id : ℕ) → found_in text id ≡ found_before text id
   unfolding found_in found_up_to table_ok found_before
-  found_before id =
+  found_before_lem id =
       by_test (table_ok text)
       (λ t. pick_true _ _ _ t
       ∙ ((λ i. pick (has_before_lem id (table_lines text) six (sound_lines t) i) (given_before_lem id t i) (refused 16))
-      ∙ sym (pick_true _ _ _ (sym table_before ∙ t))))
-      (λ f. pick_false _ _ _ f ∙ sym (pick_false _ _ _ (sym table_before ∙ f)))
+      ∙ sym (pick_true _ _ _ (sym table_before_lem ∙ t))))
+      (λ f. pick_false _ _ _ f ∙ sym (pick_false _ _ _ (sym table_before_lem ∙ f)))
 
 -- a table whose lines have six fields each is sound just where it was, and what is found in it is what was found, with every bit in the mask
 pub six_as_before : (text : List ℕ) → all_six (table_lines text) ≡ true → (table_ok text ≡ table_before text) × ((id : ℕ) → found_in text id ≡ found_before text id)
-six_as_before text six = (table_before text six, found_before text six)
+six_as_before text six = (table_before_lem text six, found_before_lem text six)

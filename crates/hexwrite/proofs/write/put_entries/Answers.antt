@@ -39,8 +39,5 @@ loop-i-preserved c = turn_on _ _ _ _ _ _ _ c.loop-i.invariant
     c.run_stop-stop.ensures _ c.hex_address-address.ensures _ _ _
     c.put_run-at.ensures c.upper_half-upper.ensures
 
-pub shape_of-out : goal.shape_of-out
-shape_of-out c = left_room c.loop-i.invariant.left
-
 pub returns : goal.returns
 returns c = turn_done _ _ _ _ _ _ _ c.loop-i.invariant (omega arith)

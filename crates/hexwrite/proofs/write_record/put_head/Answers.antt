@@ -16,7 +16,7 @@ put_pair-requires-2 c = (
     arith,
     length-set c.args.out.now
         c.args.at 0x3a,
-    c.put_pair.auto.0,
+    c.put_pair.auto.out,
   ),
 )
 
@@ -27,8 +27,8 @@ put_pair-requires-3 c = (
     arith,
     length-set c.args.out.now
         c.args.at 0x3a,
-    c.put_pair.auto.0,
-    c.put_pair-2.auto.0,
+    c.put_pair.auto.out,
+    c.put_pair-2.auto.out,
   ),
 )
 
@@ -39,19 +39,11 @@ put_pair-requires-4 c = (
     arith,
     length-set c.args.out.now
         c.args.at 0x3a,
-    c.put_pair.auto.0,
-    c.put_pair-2.auto.0,
-    c.put_pair-3.auto.0,
+    c.put_pair.auto.out,
+    c.put_pair-2.auto.out,
+    c.put_pair-3.auto.out,
   ),
 )
-
-pub shape_of-out : goal.shape_of-out
-shape_of-out c = c.put_pair-4.auto.0 ∙
-    (c.put_pair-3.auto.0 ∙
-    (c.put_pair-2.auto.0 ∙
-    (c.put_pair.auto.0 ∙ length-set
-    c.args.out.now
-    c.args.at 0x3a)))
 
 pub returns : goal.returns
 returns c = (head_put _ _ _ _ _ _ _ _ _ _ c.put_pair.ensures c.put_pair-2.ensures c.put_pair-3.ensures c.put_pair-4.ensures, refl)

@@ -5,13 +5,13 @@ use borrow.Author.Rules.{rules}
 use Rattle.hexwrite.proofs.write_run.put_data.Goals as goal
 
 pub put_words-sum-requires : goal.put_words-sum-requires
-put_words-sum-requires c = (c.requires.0, omega arith, c.requires.3, c.requires.4, omega (arith, c.put_head-body.auto.0))
+put_words-sum-requires c = (c.requires.0, omega arith, c.requires.3, c.requires.4, omega (arith, c.put_head-body.auto.out))
 
 pub put_sum-requires : goal.put_sum-requires
 put_sum-requires c = (
   c.requires.0,
   omega
-      (arith, c.put_words-sum.auto.0, c.put_head-body.auto.0),
+      (arith, c.put_words-sum.auto.out, c.put_head-body.auto.out),
 )
 
 pub returns : goal.returns

@@ -14,7 +14,7 @@ pub put_pair-requires : goal.put_pair-requires
 put_pair-requires c = (
   c.requires.0,
   let n = length_new _ _
-      c.if-next-upper.false in omega (arith, c.put_head-body.auto.0),
+      c.if-next-upper.false in omega (arith, c.put_head-body.auto.out),
 )
 
 pub overflow_add-body : goal.overflow_add-body
@@ -25,7 +25,7 @@ put_pair-requires-2 c = (
   c.requires.0,
   let n = length_new _ _
       c.if-next-upper.false in omega
-      (arith, c.put_head-body.auto.0, c.put_pair.auto.0),
+      (arith, c.put_head-body.auto.out, c.put_pair.auto.out),
 )
 
 pub overflow_add-body-2 : goal.overflow_add-body-2
@@ -36,7 +36,7 @@ put_sum-requires c = (
   c.requires.0,
   let n = length_new _ _
       c.if-next-upper.false in omega
-      (arith, c.put_head-body.auto.0, c.put_pair.auto.0, c.put_pair-2.auto.0),
+      (arith, c.put_head-body.auto.out, c.put_pair.auto.out, c.put_pair-2.auto.out),
 )
 
 pub returns : goal.returns

@@ -23,7 +23,7 @@ pub overflow_add-to : goal.overflow_add-to
 overflow_add-to c = let p = c.loop-i.invariant in omega arith
 
 pub put_pair-requires-in-loop-i : goal.put_pair-requires-in-loop-i
-put_pair-requires-in-loop-i c = (c.requires.0, let p = c.loop-i.invariant in omega (arith, c.put_pair.auto.0))
+put_pair-requires-in-loop-i c = (c.requires.0, let p = c.loop-i.invariant in omega (arith, c.put_pair.auto.out))
 
 pub overflow_cast-sum-in-loop-i : goal.overflow_cast-sum-in-loop-i
 overflow_cast-sum-in-loop-i c = omega (
@@ -58,9 +58,6 @@ loop-i-preserved c = putting_on _ _ _ _ _ _ _ _ _ c.loop-i.invariant
           c.loop-i.i,
     )) _ _
     c.put_pair.ensures c.put_pair-in-loop-i.ensures
-
-pub shape_of-out : goal.shape_of-out
-shape_of-out c = c.loop-i.invariant.room
 
 pub returns : goal.returns
 returns c = putting_done _ _ _ _ _ _ _ _ _ c.loop-i.invariant c.loop-i-test.false

@@ -10,9 +10,6 @@ use Rattle.judge.proofs.checksums.add_words.Goals as goal
 pub loop-i-init : goal.loop-i-init
 loop-i-init c = (omega arith, search rules, sym (sum_none _), omega arith)
 
-pub overflow_cast-sum : goal.overflow_cast-sum
-overflow_cast-sum c = omega (arith, c.type_inv.reading c.loop-i.i)
-
 pub overflow_add-sum : goal.overflow_add-sum
 overflow_add-sum c = omega (arith, c.type_inv.reading c.loop-i.i)
 

@@ -6,7 +6,7 @@ use borrow.Author.Rules.{rules}
 use Rattle.judge.proofs.verdicts.address.Goals as goal
 
 pub returns-in-At : goal.returns-in-At
-returns-in-At c = ap place_address (sym c.a-1.given.1 ∙ c.address_of.ensures) ∙ word_of_entry _ _ (omega arith) (omega arith)
+returns-in-At c = ap place_address c.in-At.ensures ∙ word_of_entry _ _ (omega arith) (omega arith)
 
 pub returns-in-Nowhere : goal.returns-in-Nowhere
-returns-in-Nowhere c = ap place_address (sym c.enum_told-1.given.1 ∙ c.address_of.ensures) ∙ word_of_entry _ _ (omega arith) (omega arith)
+returns-in-Nowhere c = ap place_address c.in-Nowhere.ensures ∙ word_of_entry _ _ (omega arith) (omega arith)

@@ -4,17 +4,17 @@ use borrow.Author.Rules.{rules}
 use Rattle.table.proofs.line.read_fields.Goals as goal
 
 pub slice_bounds-is_name-end : goal.slice_bounds-is_name-end
-slice_bounds-is_name-end c = name_length _ _ _ _ _ _ _ c.before.before.requires
+slice_bounds-is_name-end c = name_length _ _ _ _ _ _ _ c.requires
 
 pub returns-else-is_name : goal.returns-else-is_name
-returns-else-is_name c = fields_no_name _ _ _ _ _ _ _ c.before.before.before.before.before.requires _ _ _ _ c.is_name.ensures c.if-is_name.false c.no_line.ensures
+returns-else-is_name c = fields_no_name _ _ _ _ _ _ _ c.requires _ _ _ _ c.is_name.ensures c.if-is_name.false c.no_line.ensures
 
 pub mask_after-idmask-requires : goal.mask_after-idmask-requires
-mask_after-idmask-requires c = c.before.before.before.before.before.before.before.before.before.before.before.before.before.before.requires.one
+mask_after-idmask-requires c = c.requires.one
 
 pub returns : goal.returns
 returns c = fields_read _ _ _ _ _ _ _
-    c.before.before.before.before.before.before.before.before.before.before.before.before.before.before.before.before.before.requires _ _ _ _ _ _ _ _ _
+    c.requires _ _ _ _ _ _ _ _ _
     c.is_name.ensures
     c.if-is_name.true
     c.hex_field-id.ensures

@@ -22,27 +22,27 @@ returns-else-line c = table_bad _ (c.loop-at.invariant.2 ∙ turn_bad _ _ _ _ c.
     c.loop-at-test.true c.if-text-stop.false _ _ _ c.read_line-line.ensures c.if-line.false)
 
 pub returns-then-clash_after : goal.returns-then-clash_after
-returns-then-clash_after c = table_bad _ (c.loop.invariant.2 ∙ turn_clash _ _ _ _
-    c.find.ensures.0
-    c.loop-test.true c.if1.false _ _ _
-    c.read-line.ensures c.if2.true _ c.clash_after.ensures c.if-clash_after.true)
+returns-then-clash_after c = table_bad _ (c.loop-at.invariant.2 ∙ turn_clash _ _ _ _
+    c.find-stop.ensures.0
+    c.loop-at-test.true c.if-text-stop.false _ _ _
+    c.read_line-line.ensures c.if-line.true _ c.clash_after.ensures c.if-clash_after.true)
 
 pub returns-then-lines-gt-MOST_LINES : goal.returns-then-lines-gt-MOST_LINES
-returns-then-lines-gt-MOST_LINES c = table_bad _ (c.loop.invariant.2 ∙ (turn_on _ _ _ _
-    c.find.ensures.0
-    c.loop-test.true
-    c.if1.false _ _ _ c.read-line.ensures
-    c.if2.true _ c.clash_after.ensures c.if-clash_after.false ∙ left_many _ _ c.if-lines-gt-MOST_LINES.true))
+returns-then-lines-gt-MOST_LINES c = table_bad _ (c.loop-at.invariant.2 ∙ (turn_on _ _ _ _
+    c.find-stop.ensures.0
+    c.loop-at-test.true
+    c.if-text-stop.false _ _ _ c.read_line-line.ensures
+    c.if-line.true _ c.clash_after.ensures c.if-clash_after.false ∙ left_many _ _ c.if-lines-gt-MOST_LINES.true))
 
 pub loop-at-preserved : goal.loop-at-preserved
 loop-at-preserved c = (
   omega arith,
   omega arith,
-  c.loop.invariant.2 ∙ turn_on _ _ _ _
-      c.find.ensures.0
-      c.loop-test.true
-      c.if1.false _ _ _ c.read-line.ensures
-      c.if2.true _ c.clash_after.ensures c.if-clash_after.false,
+  c.loop-at.invariant.2 ∙ turn_on _ _ _ _
+      c.find-stop.ensures.0
+      c.loop-at-test.true
+      c.if-text-stop.false _ _ _ c.read_line-line.ensures
+      c.if-line.true _ c.clash_after.ensures c.if-clash_after.false,
 )
 
 pub returns-then-lines-lt1 : goal.returns-then-lines-lt1

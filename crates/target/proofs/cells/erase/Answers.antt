@@ -13,7 +13,7 @@ pub loop-i-init : goal.loop-i-init
 loop-i-init c = (search rules, refl, search rules, sym (overlay_none _ _ _))
 
 pub offset_bounds-cells-at : goal.offset_bounds-cells-at
-offset_bounds-cells-at c = omega (arith, c.well-formed.0.1)
+offset_bounds-cells-at c = omega (arith, c.well_formed.0.1)
 
 pub loop-i-preserved : goal.loop-i-preserved
 loop-i-preserved c = (
@@ -23,9 +23,6 @@ loop-i-preserved c = (
   overlay_more c.args.first c.loop-i.i
       (λ k. erased) c.args.cells.now c.loop-i.cells erased c.loop-i.invariant.3 refl,
 )
-
-pub shape_of-cells : goal.shape_of-cells
-shape_of-cells c = c.loop-i.invariant.1
 
 pub returns : goal.returns
 returns c = let e : c.loop-i.i ≡ c.args.count = omega arith in c.loop-i.invariant.3 ∙ ap

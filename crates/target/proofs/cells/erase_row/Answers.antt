@@ -17,15 +17,15 @@ pub nonzero_div-a : goal.nonzero_div-a
 nonzero_div-a c = search (some_row, rules)
 
 pub overflow_mul-a : goal.overflow_mul-a
-overflow_mul-a c = let h = row_within _ (sound_chip c.before.before.before.before.before.before.before.before.before.args.d
-    c.before.before.before.before.before.before.before.before.before.requires.0)
-    c.before.before.before.before.before.before.before.before.before.args.at.0 c.if1.true in
-    let m = c.before.before.before.before.before.before.before.before.before.requires.0.most in omega arith
+overflow_mul-a c = let h = row_within _ (sound_chip c.args.d
+    c.requires.rules)
+    c.args.at.0 c.if-a-program.true in
+    let m = c.requires.rules.most in omega arith
 
 pub erase-requires : goal.erase-requires
-erase-requires c = let h = row_within _ (sound_chip c.before.before.before.before.before.before.before.before.before.args.d
-    c.before.before.before.before.before.before.before.before.before.requires.0)
-    c.before.before.before.before.before.before.before.before.before.args.at.0 c.if1.true in omega arith
+erase-requires c = let h = row_within _ (sound_chip c.args.d
+    c.requires.rules)
+    c.args.at.0 c.if-a-program.true in omega arith
 
 pub returns-then-a-program : goal.returns-then-a-program
 unfolding locked protected

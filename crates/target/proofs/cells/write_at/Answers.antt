@@ -16,9 +16,9 @@ pub nonzero_div-a : goal.nonzero_div-a
 nonzero_div-a c = search (some_row, rules)
 
 pub write_row-requires : goal.write_row-requires
-write_row-requires c = let v = sound_chip c.before.before.before.before.before.before.before.before.before.args.d
-    c.before.before.before.before.before.before.before.before.before.requires.0 in let h = set_within _ v
-    c.before.before.before.before.before.before.before.before.before.args.at.0 c.if1.true in (v.carried, omega arith)
+write_row-requires c = let v = sound_chip c.args.d
+    c.requires.rules in let h = set_within _ v
+    c.args.at.0 c.if-a-program.true in (v.carried, omega arith)
 
 pub returns-then-a-program : goal.returns-then-a-program
 unfolding locked protected
@@ -29,7 +29,7 @@ returns-then-at-lt-CONFIG_BASE c = search (begin_between, sound_chip, rules)
 
 pub offset_bounds-cells-i : goal.offset_bounds-cells-i
 offset_bounds-cells-i c = let h = cell_low c.args.d
-    c.requires.0 c.cell_of-i.result _
+    c.requires.rules c.cell_of-i.result _
     c.programmable.ensures c.if-programmable.true in omega arith
 
 pub bounds-cells-i : goal.bounds-cells-i
@@ -39,7 +39,7 @@ pub nonzero_rem-a : goal.nonzero_rem-a
 nonzero_rem-a c = search (some_row, rules)
 
 pub offset_bounds-latches-a : goal.offset_bounds-latches-a
-offset_bounds-latches-a c = let h = latch_of_lem _ c.requires.0
+offset_bounds-latches-a c = let h = latch_of_lem _ c.requires.rules
     c.args.at.0 in omega arith
 
 pub bounds-latches-a : goal.bounds-latches-a
@@ -47,9 +47,9 @@ bounds-latches-a c = search (latch_of_lem, rules)
 
 pub offset_bounds-cells-i-then-programmable : goal.offset_bounds-cells-i-then-programmable
 offset_bounds-cells-i-then-programmable c = let h = cell_low c.args.d
-    c.requires.0
-    c.cell-of.result _ c.programmable.ensures
-    c.if4.true in omega arith
+    c.requires.rules
+    c.cell_of-i.result _ c.programmable.ensures
+    c.if-programmable.true in omega arith
 
 pub bounds-cells-i-then-programmable : goal.bounds-cells-i-then-programmable
 bounds-cells-i-then-programmable c = search (cell_within, rules)

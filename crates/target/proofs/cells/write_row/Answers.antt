@@ -14,25 +14,22 @@ pub loop-i-init : goal.loop-i-init
 loop-i-init c = (search rules, search rules, refl, search rules, sym (overlay_none _ _ _))
 
 pub offset_bounds-cells-at : goal.offset_bounds-cells-at
-offset_bounds-cells-at c = omega (arith, c.well-formed)
+offset_bounds-cells-at c = omega (arith, c.well_formed)
 
 pub offset_bounds-cells-at-in-loop-i : goal.offset_bounds-cells-at-in-loop-i
-offset_bounds-cells-at-in-loop-i c = omega (arith, c.well-formed)
+offset_bounds-cells-at-in-loop-i c = omega (arith, c.well_formed)
 
 pub loop-i-preserved : goal.loop-i-preserved
 loop-i-preserved c = (
   omega arith,
-  c.loop.invariant.1,
+  c.loop-i.invariant.1,
   rw length-set
-      c.loop.invariant.2,
-  c.loop.invariant.3,
+      c.loop-i.invariant.2,
+  c.loop-i.invariant.3,
   write_turn c.args.latches.now
       c.args.row c.args.number c.args.cells.now
-      c.loop.cells c.loop.i c.loop-test.true c.loop.invariant.4,
+      c.loop-i.cells c.loop-i.i c.loop-i-test.true c.loop-i.invariant.4,
 )
-
-pub shape_of-cells : goal.shape_of-cells
-shape_of-cells c = c.loop-i.invariant.2
 
 pub returns : goal.returns
 returns c = let e : c.loop-i.i ≡ c.args.row = omega arith in c.loop-i.invariant.4 ∙ ap

@@ -8,4 +8,4 @@ use Rattle.target.proofs.effects.latch_of.Reads as latch_of_reads
 use Rattle.target.proofs.effects.load_latch.Goals as goal
 
 pub returns : goal.returns
-returns c = ap (λ k. set c.args.latches.now k c.args.w) c.latch_of_lem.ensures.0
+returns c = ap (λ k. set c.args.latches.now k c.args.w) c.latch_of-latch.ensures.0

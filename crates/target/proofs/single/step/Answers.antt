@@ -14,35 +14,35 @@ returns-then-judge-ne0 c = steps_13 _ _ _ _ _ _ (bad_of_judged _ (λ e. c.if-jud
 pub returns-else-is_words : goal.returns-else-is_words
 unfolding sound_cells
 returns-else-is_words c = steps_32_cells _ _ _ _ _ _ (ok_of_judged _
-    (sym c.judge.ensures ∙ c.if1.false)) (sym c.is_words.ensures ∙ c.if-is_words.false)
+    (sym c.judge.ensures ∙ c.if-judge-ne0.false)) (sym c.is_words.ensures ∙ c.if-is_words.false)
 
 pub latches_ok-requires : goal.latches_ok-requires
-latches_ok-requires c = rules_of_judged _ (sym c.judge.ensures ∙ c.if1.false)
+latches_ok-requires c = rules_of_judged _ (sym c.judge.ensures ∙ c.if-judge-ne0.false)
 
 pub returns-else-latches_ok : goal.returns-else-latches_ok
 unfolding sound_cells
 returns-else-latches_ok c = steps_32_latches _ _ _ _ _ _ (ok_of_judged _
     (sym c.judge.ensures
-    ∙ c.if1.false))
+    ∙ c.if-judge-ne0.false))
     (sym c.is_words.ensures ∙ c.if-is_words.true) (sym c.latches_ok.ensures ∙ c.if-latches_ok.false)
 
 pub perform-o-requires : goal.perform-o-requires
-perform-o-requires c = (
-  rules_of_judged _ (sym c.judge.ensures
-      ∙ c.if1.false),
-  (
+perform-o-requires c = record {
+    rules = rules_of_judged _ (sym c.judge.ensures
+      ∙ c.if-judge-ne0.false);
+    cells_len = (
     words_long _ _
         (sym c.is_words.ensures
         ∙ c.if-is_words.true),
     omega arith,
-  ),
-)
+  );
+  }
 
 pub returns : goal.returns
 unfolding sound_cells
 returns c = steps_on _ _ _ _ _ _ (ok_of_judged _
     (sym c.judge.ensures
-    ∙ c.if1.false))
+    ∙ c.if-judge-ne0.false))
     (sym c.is_words.ensures
     ∙ c.if-is_words.true)
     (sym c.latches_ok.ensures

@@ -14,7 +14,10 @@ pub loop-done-init : goal.loop-done-init
 loop-done-init c = (search rules, search rules, refl, refl, going_none _ _ _ _ _ _ refl)
 
 pub next_step-o-requires : goal.next_step-o-requires
-next_step-o-requires c = (c.requires.0, (omega arith, omega arith, omega arith))
+next_step-o-requires c = record {
+    rules = c.requires.rules;
+    cells_len = (omega arith, omega arith, omega arith);
+  }
 
 pub returns-then-number-ne0 : goal.returns-then-number-ne0
 returns-then-number-ne0 c = going_stops _ _ _ _ _ _ _ _ _ _ c.loop-done.invariant.4 _ _ _ _ _
@@ -28,18 +31,12 @@ loop-done-preserved c = (
     reads_within _ _ _
         c.loop-done.invariant.1 _ _ _ _ _
         c.next_step-o.ensures,
-    c.next_step-o.auto.1.1.1.1.1.1.0,
+    c.next_step-o.auto.words,
   ),
-  c.next_step-o.auto.1.1.1.1.1.1.1.0 ∙ c.loop-done.invariant.2,
-  c.next_step-o.auto.1.1.1.1.1.1.0 ∙ c.loop-done.invariant.3,
+  c.next_step-o.auto.cells ∙ c.loop-done.invariant.2,
+  c.next_step-o.auto.words ∙ c.loop-done.invariant.3,
   going_more _ _ _ _ _ _ _ _ _ _ c.loop-done.invariant.4 _ _ _ _ _ c.next_step-o.ensures c.if-number-ne0.false,
 )
-
-pub shape_of-cells : goal.shape_of-cells
-shape_of-cells c = c.loop-done.invariant.2
-
-pub shape_of-words : goal.shape_of-words
-shape_of-words c = c.loop-done.invariant.3
 
 pub returns : goal.returns
 returns c = going_ends _ _ _ _ _ _ _ _ _ _ c.loop-done.invariant.4 _ (omega arith)

@@ -4,12 +4,6 @@ use Prim.Native.Nat.{◌+◌}
 use borrow.Author.Rules.{rules}
 use Rattle.target.proofs.trial.payload_at.Goals as goal
 
-pub overflow_cast-result : goal.overflow_cast-result
-overflow_cast-result c = omega (arith, c.type_inv.stream (c.args.at + 1))
-
-pub overflow_cast-result-2 : goal.overflow_cast-result-2
-overflow_cast-result-2 c = omega (arith, c.type_inv.stream (c.args.at + 2))
-
 pub overflow_mul-result : goal.overflow_mul-result
 overflow_mul-result c = omega (arith, c.type_inv.stream (c.args.at + 2))
 
