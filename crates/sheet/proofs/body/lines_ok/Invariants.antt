@@ -1,0 +1,15 @@
+-- Each line passed is sound.
+use Prim.Native.Nat.{◌-◌, ◌≤◌}
+use mathlib.Core.Path.{◌≡◌, sym, ◌∙◌}
+use mathlib.Core.Bool.{true}
+use native.Mathlib.Omega.{arith}
+use borrow.Author.Rules.{rules}
+use Rattle.sheet.specs.LawsPlaces.{lines_ok}
+use Rattle.sheet.specs.LawsRead.{lines_none, lines_more, lines_no, lines_end}
+use Rattle.sheet.proofs.body.lines_ok.Given as goal
+
+abbrev pub invariant-loop-k : goal.invariant-loop-k
+invariant-loop-k l = (l.k ≤ l.lines) × (lines_ok l.text l.k ≡ true)
+
+abbrev pub decreases-loop-k : goal.decreases-loop-k
+decreases-loop-k l = l.lines - l.k

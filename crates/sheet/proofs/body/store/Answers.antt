@@ -1,0 +1,27 @@
+-- Each word passed is stored, and the rest is as it was.
+use Rattle.numerals.specs.Hex.{capital_of, word_by}
+use Rattle.device.specs.Memory.{reading_tail}
+use Prim.Native.Nat.{◌+◌, ◌-◌, ◌≤◌}
+use mathlib.Core.Path.{◌≡◌, ap, ◌∙◌}
+use native.Mathlib.Omega.{arith}
+use borrow.Author.Rules.{rules}
+use lib.ListN.{length}
+use Rattle.sheet.specs.LawsRead.{stored, stored_none, stored_more, stored_end, stored_small}
+use Rattle.sheet.proofs.body.store.Goals as goal
+
+pub loop-i-init : goal.loop-i-init
+loop-i-init c = (search rules, c.requires.1, stored_none _ _ _)
+
+pub digits_at-requires : goal.digits_at-requires
+digits_at-requires c = (omega arith, omega arith)
+
+pub overflow_cast-buffer : goal.overflow_cast-buffer
+overflow_cast-buffer c = let s = stored_small _ _ c.requires.2 c.loop-i.i (omega arith) in
+    let e = c.capital_word.ensures ∙ ap (word_by capital_of c.args.text.now) c.digits_at.ensures in
+    omega arith
+
+pub loop-i-preserved : goal.loop-i-preserved
+loop-i-preserved c = (omega arith, search rules, stored_more _ _ _ _ _ _ _ c.loop-i.invariant.2 c.digits_at.ensures c.capital_word.ensures)
+
+pub returns : goal.returns
+returns c = stored_end _ _ _ c.requires.1 _ _ c.loop-i.invariant.0 (omega arith) c.loop-i.invariant.2

@@ -1,0 +1,16 @@
+-- Each word passed is stored, and the rest is as it was.
+use Rattle.numerals.specs.Hex.{capital_of, word_by}
+use Rattle.device.specs.Memory.{reading_tail}
+use Prim.Native.Nat.{◌+◌, ◌-◌, ◌≤◌}
+use mathlib.Core.Path.{◌≡◌, ap, ◌∙◌}
+use native.Mathlib.Omega.{arith}
+use borrow.Author.Rules.{rules}
+use lib.ListN.{length}
+use Rattle.sheet.specs.LawsRead.{stored, stored_none, stored_more, stored_end, stored_small}
+use Rattle.sheet.proofs.body.store.Given as goal
+
+abbrev pub invariant-loop-i : goal.invariant-loop-i
+invariant-loop-i l = (l.i ≤ l.program + reading_tail) × (length l.buffer ≡ l.program + reading_tail) × (l.buffer ≡ stored l.program l.text l.i l.initial.buffer)
+
+abbrev pub decreases-loop-i : goal.decreases-loop-i
+decreases-loop-i l = l.program + reading_tail - l.i
