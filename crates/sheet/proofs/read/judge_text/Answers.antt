@@ -10,27 +10,27 @@ pub returns-else-first : goal.returns-else-first
 returns-else-first c = text_no_line _ _ _ _ _ _ _ _ _ c.read_line-first.ensures c.if-first.false
 
 pub returns-else-fits : goal.returns-else-fits
-returns-else-fits c = text_no_fit _ _ _ _ _ _ _ _ _ c.read_line-first.ensures c.if-first.true (sym c.fits2.ensures ∙ c.if-fits.false)
+returns-else-fits c = text_no_fit _ _ _ _ _ _ _ _ _ c.read_line-first.ensures c.if-first.true (sym c.fits.ensures ∙ c.if-fits.false)
 
 pub slice_bounds-places_ok-start : goal.slice_bounds-places_ok-start
 slice_bounds-places_ok-start c = omega (arith, c.read_line-first.ensures.size_in)
 
 pub places_ok-requires : goal.places_ok-requires
-places_ok-requires c = (rules_lem _ c.pre).most
+places_ok-requires c = (rules_lem _ c.requires).most
 
 pub returns-else-places_ok : goal.returns-else-places_ok
 returns-else-places_ok c = text_no_body _ _ _ _ _ _ _ _ _ c.read_line-first.ensures c.if-first.true
-    c.pre (sym c.places_ok.ensures ∙ c.if-places_ok.false)
+    c.requires (sym c.places_ok.ensures ∙ c.if-places_ok.false)
 
 pub judge_fields-requires : goal.judge_fields-requires
 judge_fields-requires c = (
-  c.pre,
+  c.requires,
   text_new _ c.args.name.now _ _ _ _ _ _ _
-      c.read_line-first.ensures c.if-first.true c.pre
-      (sym c.fits2.ensures ∙ c.if-fits.true) (sym c.places_ok.ensures ∙ c.if-places_ok.true)
+      c.read_line-first.ensures c.if-first.true c.requires
+      (sym c.fits.ensures ∙ c.if-fits.true) (sym c.places_ok.ensures ∙ c.if-places_ok.true)
       c.if-first-2.true,
   text_good _ c.args.name.now _ _ _ _ _ _ _ c.read_line-first.ensures
-      c.if-first.true c.pre (sym c.fits2.ensures
+      c.if-first.true c.requires (sym c.fits.ensures
       ∙ c.if-fits.true) (sym c.places_ok.ensures ∙ c.if-places_ok.true),
 )
 
@@ -39,5 +39,5 @@ returns-then-first-2 c = c.judge_fields.ensures
 
 pub returns : goal.returns
 returns c = text_old _ _ _ _ _ _ _ _ _ c.read_line-first.ensures c.if-first.true
-    c.pre (sym c.fits2.ensures ∙ c.if-fits.true)
+    c.requires (sym c.fits.ensures ∙ c.if-fits.true)
     (sym c.places_ok.ensures ∙ c.if-places_ok.true) c.if-first-2.false

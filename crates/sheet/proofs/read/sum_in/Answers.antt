@@ -7,21 +7,21 @@ use borrow.Author.Rules.{rules}
 use Rattle.sheet.proofs.read.sum_in.Goals as goal
 
 pub slice_bounds-words-end : goal.slice_bounds-words-end
-slice_bounds-words-end c = aside_room _ c.pre.0
+slice_bounds-words-end c = aside_room _ c.requires.0
 
 pub slice_bounds-store-end : goal.slice_bounds-store-end
-slice_bounds-store-end c = sym (aside_long _ c.pre.0)
+slice_bounds-store-end c = sym (aside_long _ c.requires.0)
 
 pub store-requires : goal.store-requires
-store-requires c = ((rules_lem _ c.pre.0).most, aside_long _ c.pre.0, body_sound _ _ c.pre.1)
+store-requires c = ((rules_lem _ c.requires.0).most, aside_long _ c.requires.0, body_sound _ _ c.requires.1)
 
 pub slice_bounds-words-end-2 : goal.slice_bounds-words-end-2
-slice_bounds-words-end-2 c = stored_within _ c.pre.0 _ c.pre.1 _ c.store.ensures _
+slice_bounds-words-end-2 c = stored_within _ c.requires.0 _ c.requires.1 _ c.store.ensures _
 
 pub slice_bounds-checksum-end : goal.slice_bounds-checksum-end
-slice_bounds-checksum-end c = sym (stored_long _ c.pre.0 _ c.pre.1 _
+slice_bounds-checksum-end c = sym (stored_long _ c.requires.0 _ c.requires.1 _
     c.store.ensures _)
 
 pub returns : goal.returns
-returns c = sum_of_stored _ c.pre.0 _ c.pre.1 _ c.store.ensures _ _
+returns c = sum_of_stored _ c.requires.0 _ c.requires.1 _ c.store.ensures _ _
     c.checksum-summed.ensures

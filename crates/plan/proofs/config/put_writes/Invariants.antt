@@ -1,0 +1,20 @@
+-- The words from here on are left to be written.
+use Prim.Native.Nat.{◌+◌, ◌-◌, ◌≤◌}
+use native.Mathlib.Omega.{arith}
+use mathlib.Core.Path.{◌≡◌, refl, sym, ◌∙◌}
+use lib.ListN.{length}
+use Rattle.target.specs.Chip.{chip_of}
+use Rattle.aim.specs.Wanted.{known, wanted, config_writes}
+use Rattle.plan.specs.Steps.{writes_from}
+use Rattle.plan.specs.LawsPlanSteps.{writes_yes, writes_no, writes_none, word_same}
+use Rattle.plan.specs.LawsPlanWrote.{Left, left_all, left_same, left_then, left_none, room_part, room_same, wrote_same}
+use borrow.Author.Rules.{rules}
+use Rattle.plan.proofs.config.put_writes.Given as goal
+
+abbrev pub invariant-loop-k : goal.invariant-loop-k
+invariant-loop-k l = (l.k ≤ 9) × (length l.out ≡ length l.initial.out) × Left
+    (writes_from (λ j. wanted l.d l.image l.reading (l.d.words + j)) (config_writes (chip_of l.d) (wanted l.d l.image l.reading) (known l.reading) l.all_ids) 9 0 0) l.steps l.initial.out
+    (writes_from (λ j. wanted l.d l.image l.reading (l.d.words + j)) (config_writes (chip_of l.d) (wanted l.d l.image l.reading) (known l.reading) l.all_ids) (9 - l.k) l.k l.at) l.done l.out
+
+abbrev pub decreases-loop-k : goal.decreases-loop-k
+decreases-loop-k l = 9 - l.k

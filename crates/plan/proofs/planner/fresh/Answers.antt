@@ -1,0 +1,32 @@
+-- A refusal, a buffer that is too short, or the stream.
+use native.Mathlib.Omega.{arith}
+use mathlib.Core.Path.{sym, ◌∙◌}
+use Rattle.device.specs.LawsRecord.{rules_lem}
+use Rattle.plan.specs.LawsPlan.{plans_refused, plans_short, plans_done}
+use Rattle.aim.specs.LawsAccepted.{accepted_fresh}
+use Rattle.plan.specs.LawsPlanSource.{fresh_source}
+use Rattle.plan.specs.LawsPlanWrote.{room_whole}
+use borrow.Author.Rules.{rules}
+use Rattle.plan.proofs.planner.fresh.Goals as goal
+
+pub returns-then-number-ne0 : goal.returns-then-number-ne0
+returns-then-number-ne0 c = search (plans_refused, rules)
+
+pub fresh_length-need-requires : goal.fresh_length-need-requires
+fresh_length-need-requires c = rules_lem _ (accepted_fresh _ _ _ (sym c.fresh_refusal-number.ensures ∙ c.if-number-ne0.false)).device
+
+pub returns-then-out-need : goal.returns-then-out-need
+returns-then-out-need c = plans_short _ _ _ _ _ c.fresh_refusal-number.ensures c.if-number-ne0.false c.fresh_length-need.ensures.is c.if-out-need.true
+
+pub put_fresh-steps-requires : goal.put_fresh-steps-requires
+put_fresh-steps-requires c = let s = accepted_fresh _ _ _ (sym c.fresh_refusal-number.ensures ∙ c.if-number-ne0.false) in
+     record {
+    rules = rules_lem _ s.device;
+    source = fresh_source _ _ s.image_sound;
+    room = room_whole _ _ _ c.fresh_length-need.ensures.is (omega arith) c.if-out-need.false;
+  }
+
+pub returns : goal.returns
+returns c = plans_done _ _ _ _ _ _ _ c.fresh_refusal-number.ensures
+    c.if-number-ne0.false c.fresh_length-need.ensures.is
+    c.if-out-need.false c.put_fresh-steps.ensures
