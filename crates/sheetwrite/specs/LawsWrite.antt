@@ -140,6 +140,13 @@ name_put name o p q h e f =
     ∙ (ap (λ x. take 5 o ++ x) (append-nil (name ++ drop (5 + length name) o))
     ∙ sym (sets-eq name o 5 h ∙ append_assoc (take 5 o) name (drop (5 + length name) o))))
 
+-- the same where just the name's places are lent
+pub name_copied : (name o p q : List ℕ) → 5 + length name ≤ length o → p ≡ name → q ≡ take 5 o ++ (p ++ drop (5 + length name - 5) (drop 5 o)) → q ≡ sets o 5 name
+name_copied name o p q h e f =
+    let count : 5 + length name - 5 ≡ length name = omega arith in
+    f ∙ ((λ i. take 5 o ++ (e i ++ (ap (λ k. drop k (drop 5 o)) count ∙ drop-drop (length name) 5 o) i))
+    ∙ sym (sets-eq name o 5 h ∙ append_assoc (take 5 o) name (drop (5 + length name) o)))
+
 -- line 1 and the other lines
 pub then_put : (line body o p q : List ℕ) (n : ℕ) → length line ≡ n → p ≡ sets o 0 line → q ≡ sets p n body → q ≡ sets o 0 (line ++ body)
 then_put line body o p q n e f g = sym (sets_then o 0 line body n e ∙ rw (zero-add, g, f))

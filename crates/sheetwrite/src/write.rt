@@ -98,7 +98,8 @@ fn put_name(out: &mut [u8], name: &[u8])
     requires { 5 + length name.now ≤ length out.old }
     ensures { out.new ≡ sets out.old 5 name.now }
 {
-    bytes::copy(name, &mut out[5..]);
+    let end = 5 + name.len();
+    out[5..end].copy_from_slice(name);
 }
 
 // A tab, the sum, LF.

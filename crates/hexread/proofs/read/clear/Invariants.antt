@@ -1,0 +1,13 @@
+-- The entries passed are not given.
+use native.Mathlib.Omega.{arith}
+use Prim.Native.Nat.{◌-◌}
+use lib.ListN.{length}
+use Rattle.hexread.specs.LawsReader.{Clearing, clearing_none, clearing_more, clearing_all}
+use borrow.Author.Rules.{rules}
+use Rattle.hexread.proofs.read.clear.Given as goal
+
+abbrev pub invariant-loop-i : goal.invariant-loop-i
+invariant-loop-i l = Clearing l.initial.image l.image l.i
+
+abbrev pub decreases-loop-i : goal.decreases-loop-i
+decreases-loop-i l = length l.initial.image - l.i
