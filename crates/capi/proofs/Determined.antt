@@ -1,12 +1,12 @@
 -- For each call: two results that its promise allows are equal, the number and the later content of every place that was lent.
 use mathlib.Core.Path.{◌≡◌, ap}
 use Rattle.words.specs.LawsPromise.{determined}
-use Rattle.capi.proofs.board.tickmallet_checksum.Reads as checksum
-use Rattle.capi.proofs.board.tickmallet_verify.Reads as verify
-use Rattle.capi.proofs.board.tickmallet_read_id.Reads as read_id
-use Rattle.capi.proofs.board.tickmallet_read_sheet.Reads as read_sheet
-use Rattle.capi.proofs.board.tickmallet_write_sheet.Reads as write_sheet
-use Rattle.capi.proofs.board.tickmallet_write_new_sheet.Reads as write_new_sheet
+use Rattle.capi.proofs.boards.tickmallet_checksum.Reads as checksum
+use Rattle.capi.proofs.boards.tickmallet_verify.Reads as verify
+use Rattle.capi.proofs.boards.tickmallet_read_id.Reads as read_id
+use Rattle.capi.proofs.boards.tickmallet_read_sheet.Reads as read_sheet
+use Rattle.capi.proofs.boards.tickmallet_write_sheet.Reads as write_sheet
+use Rattle.capi.proofs.boards.tickmallet_write_new_sheet.Reads as write_new_sheet
 use Rattle.capi.proofs.moved.tickmallet_to_new.Reads as to_new
 use Rattle.capi.proofs.moved.tickmallet_to_old.Reads as to_old
 use Rattle.capi.proofs.hex.tickmallet_read_hex.Reads as read_hex

@@ -2,7 +2,7 @@
 // are stored where the caller says. No call here has a `requires`.
 #![tactic(auto)]
 
-mod board;
+mod boards;
 mod hex;
 mod model;
 mod moved;

@@ -1,0 +1,25 @@
+-- A reading is not refused, and there is room for every sheet.
+use Prim.Native.Nat.{ℕ}
+use mathlib.Core.Path.{sym}
+use native.Mathlib.Omega.{arith}
+use lib.ListN.{length-replicate}
+use lib.Seq.{length-take-le}
+use Rattle.print.specs.LawsPrint.{prints_as}
+use Rattle.sheetwrite.specs.LawsWrite.{written_short}
+use Rattle.board.specs.LawsWritten.{sheet_whole}
+use borrow.Author.Rules.{rules}
+use Rattle.listings.proofs.wanteds.put_sheet.Goals as goal
+
+pub slice_bounds-sheet-end : goal.slice_bounds-sheet-end
+slice_bounds-sheet-end c = omega (arith, length-replicate {A = ℕ} 46135 0, written_short _ _ _ _ c.write_sheet-written.ensures.0)
+
+pub slice_bounds-text-end : goal.slice_bounds-text-end
+slice_bounds-text-end c = sym (length-take-le _ _ (omega (arith, length-replicate {A = ℕ} 46135 0, written_short _ _ _ _ c.write_sheet-written.ensures.0)))
+
+pub returns : goal.returns
+returns c =
+    let p = c.requires in
+    let w = c.write_sheet-written.ensures in
+    prints_as _ _ _ _ _ (sheet_whole c.args.d p.0 _ p.1
+    c.args.id p.2 _ (length-replicate {A = ℕ} 46135 0) _ w.0 _ w.1)
+    c.text.ensures
