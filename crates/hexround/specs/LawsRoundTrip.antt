@@ -110,11 +110,11 @@ read_on : (words : ℕ) (line : List ℕ) (ls : List (List ℕ)) (k : ℕ) (r ne
     → record_step words line r ≡ next → next.number ≡ 0 → read_lines words (line ∷ ls) k r ≡ read_lines words ls (k + 1) next
 unfolding read_lines
 read_on words line ls k r next some open_still sound step fine =
-    let here : line_step words line r ≡ next = unfold line_step in line_step in
+    let here : line_step words line r ≡ next = unfold line_step in line_step_lem in
     rw here (pick_true (eqb next.number 0) _ _ (eq-eqb next.number 0 fine))
   where
-    line_step : pick (eqb (length line) 0) r (pick r.ended (line_refused 11 r) (pick (eqb (line_number line) 0) (record_step words line r) (line_refused (line_number line) r))) ≡ next
-    line_step =
+    line_step_lem : pick (eqb (length line) 0) r (pick r.ended (line_refused 11 r) (pick (eqb (line_number line) 0) (record_step words line r) (line_refused (line_number line) r))) ≡ next
+    line_step_lem =
         pick_false (eqb (length line) 0) _ _ (ne_eqb (length line) 0 some)
         ∙ (pick_false r.ended _ _ open_still
         ∙ (pick_true (eqb (line_number line) 0) _ _ (eq-eqb (line_number line) 0 sound) ∙ step))

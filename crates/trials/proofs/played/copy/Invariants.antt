@@ -1,0 +1,15 @@
+-- A word in each turn; what is left to copy gets shorter.
+use Prim.Native.Nat.{◌-◌, ◌≤◌}
+use mathlib.Core.Path.{◌≡◌, refl, ◌∙◌}
+use native.Mathlib.Omega.{arith}
+use borrow.Author.Rules.{rules}
+use lib.ListN.{length, drop}
+use lib.Seq.{sets}
+use Rattle.print.specs.LawsPrint.{text_turn, text_done}
+use Rattle.trials.proofs.played.copy.Given as goal
+
+abbrev pub invariant-loop-i : goal.invariant-loop-i
+invariant-loop-i l = (sets l.initial.to 0 l.from ≡ sets l.to l.i (drop l.i l.from)) × (l.i ≤ length l.from) × (length l.to ≡ length l.initial.to)
+
+abbrev pub decreases-loop-i : goal.decreases-loop-i
+decreases-loop-i l = length l.from - l.i
