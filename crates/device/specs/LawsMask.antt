@@ -1,12 +1,11 @@
 -- Laws of the masks of a device's words: which entry has which, and that all but configuration words have every bit.
-use Rattle.std.specs.Prelude.{ℕ, ◌+◌, ◌<◌, ◌≡◌, eqb, get_or, List}
+use Rattle.std.specs.Prelude.{ℕ, ◌+◌, ◌<◌, ◌≡◌, eqb}
 use Rattle.std.proofs.Common.{arith, sym, ap, ◌∙◌, eq-eqb, ne_eqb}
-use Rattle.std.specs.Int.Bits.{bit_and}
-use Rattle.words.specs.Word.{erased, bit, under_mask}
+use Rattle.words.specs.Word.{erased, under_mask}
 use Rattle.words.specs.LawsChoice.{pick_true, pick_false}
 use Rattle.words.specs.LawsMask.{under_all}
 use Rattle.device.specs.declared.Device.{Device}
-use Rattle.device.specs.Memory.{mask_at, cp_word, ids}
+use Rattle.device.specs.Memory.{mask_at, cp_word}
 
 module _ (d : Device) (i : ℕ) where
   pub mask_one : i ≡ d.words + 7 → mask_at d i ≡ d.mask1

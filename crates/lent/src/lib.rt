@@ -34,7 +34,7 @@ pub fn step_method(
     words: &mut [u16],
     cells: &mut [u16],
 ) -> Stepped
-    ensures { Steps d r code payload words.old cells.old result.number result.registers words.new cells.new }
+    ensures { (Steps d r code payload words.old cells.old result.number result.registers words.new cells.new) }
 {
     let mut registers = r;
     let number = registers.step(d, code, payload, words, cells);

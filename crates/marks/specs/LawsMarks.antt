@@ -1,6 +1,6 @@
 -- Laws of a search that goes from place to place.
-use Rattle.std.specs.Prelude.{ℕ, suc, ◌∷◌, ◌+◌, ◌-◌, ◌≤◌, ◌<◌, ◌≡◌, List, length, get_or, refl, take, drop}
-use Rattle.std.proofs.Common.{arith, sym, ◌∙◌, add-one, add-zero, drop-cons, drop_of_length-le, length-take, get_or-take}
+use Rattle.std.specs.Prelude.{ℕ, suc, ◌∷◌, ◌+◌, ◌≤◌, ◌<◌, ◌≡◌, List, length, get_or, refl, take}
+use Rattle.std.proofs.Common.{arith, ◌∙◌, add-one, drop-cons, drop_of_length-le, get_or-take}
 use Rattle.std.proofs.Math.Seq.{length-take-le}
 use borrow.Author.Tests.{ne_eqb, eq-eqb}
 use Rattle.marks.specs.Marks.{index_after, index_of, slice}

@@ -1,5 +1,5 @@
 -- Laws of 14-bit words, stated over the width where it has no say: AND, containment, and words between an old and a new one.
-use Rattle.std.specs.Prelude.{ℕ, zero, suc, ◌+◌, ◌-◌, ◌*◌, ◌/◌, ◌%◌, ◌^◌, ◌≤◌, ◌<◌, min, ◌≡◌, refl, true, false, List, eqb}
+use Rattle.std.specs.Prelude.{ℕ, zero, suc, ◌+◌, ◌*◌, ◌/◌, ◌%◌, ◌^◌, ◌≤◌, ◌<◌, min, ◌≡◌, refl, true, false, List, eqb}
 use native.Mathlib.Nat.{mod-eq_of_lt, div-one, div-div-eq-div-mul, div-eq_of_lt, pow-succ', min-le_left, zero-div, zero-mod, div-lt_iff_lt-mul}
 use Rattle.std.proofs.Common.{arith, sym, ap, ◌∙◌, inr, ⊎_elim}
 use lib.Pow.{pow_pos, shr-shr}

@@ -1,7 +1,5 @@
 -- One law for each way out.
 use Rattle.device.specs.LawsImage.{bits_none, bits_given}
-use Rattle.device.proofs.image.given_bits.Reads as reads
-use Rattle.device.proofs.image.given_bits.Lts as lts
 use Rattle.device.proofs.image.given_bits.Goals as goal
 
 pub returns-then-entry-eq-NOT_GIVEN : goal.returns-then-entry-eq-NOT_GIVEN

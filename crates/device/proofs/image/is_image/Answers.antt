@@ -1,12 +1,7 @@
 -- The length, the bits of what is given, and the words that are never given.
 use mathlib.Core.Path.{sym, ◌∙◌}
-use borrow.Author.Rules.{rules}
 use Rattle.device.specs.LawsMemory.{image_short}
 use Rattle.device.specs.LawsImage.{image_high, image_low}
-use Rattle.device.proofs.image.is_image.Reads as reads
-use Rattle.device.proofs.image.is_image.Lts as lts
-use Rattle.device.proofs.image.join_given.Reads as join_given_reads
-use Rattle.device.proofs.image.none_between.Reads as none_between_reads
 use Rattle.device.proofs.image.is_image.Goals as goal
 
 pub returns-then-l-n : goal.returns-then-l-n

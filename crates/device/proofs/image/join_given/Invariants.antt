@@ -1,13 +1,8 @@
 -- The bits of the entries passed are joined.
 use Prim.Native.Nat.{◌≤◌, ◌-◌}
-use native.Mathlib.Omega.{arith}
-use borrow.Author.Rules.{rules}
 use lib.ListN.{length, get_or}
-use Rattle.words.specs.LawsJoined.{Joined, joined_none, joined_more, joined_end}
+use Rattle.words.specs.LawsJoined.{Joined}
 use Rattle.device.specs.LawsImage.{given_bits}
-use Rattle.device.proofs.image.join_given.Reads as reads
-use Rattle.device.proofs.image.join_given.Lts as lts
-use Rattle.device.proofs.image.given_bits.Reads as given_bits_reads
 use Rattle.device.proofs.image.join_given.Given as goal
 
 abbrev pub invariant-loop-i : goal.invariant-loop-i

@@ -1,8 +1,5 @@
 -- One law for each way out.
-use borrow.Author.Rules.{rules}
 use Rattle.device.specs.LawsImage.{never_first, never_second, never_third}
-use Rattle.device.proofs.image.none_between.Reads as reads
-use Rattle.device.proofs.image.none_between.Lts as lts
 use Rattle.device.proofs.image.none_between.Goals as goal
 
 pub returns-then-l-first : goal.returns-then-l-first

@@ -3,7 +3,6 @@ use mathlib.Core.Path.{refl}
 use Rattle.words.specs.Word.{bit}
 use Rattle.device.specs.Memory.{zero_bit, protected}
 use Rattle.device.specs.LawsMemory.{protected_past}
-use borrow.Author.Rules.{rules}
 use Rattle.device.proofs.memory.is_protected.Goals as goal
 
 pub returns-then-at-l : goal.returns-then-at-l

@@ -1,6 +1,5 @@
 -- A reading is a list of P+9 words.
 use Rattle.device.specs.Memory.{reading_ok}
-use borrow.Author.Rules.{rules}
 use Rattle.device.proofs.memory.is_reading.Goals as goal
 
 pub returns : goal.returns

@@ -3,7 +3,6 @@ use mathlib.Core.Path.{sym, ◌∙◌}
 use native.Mathlib.Omega.{arith}
 use Rattle.words.specs.Word.{bit}
 use Rattle.device.specs.LawsRecord.{judged_row, judged_words, judged_bad, judged_all, row}
-use borrow.Author.Rules.{rules}
 use Rattle.device.proofs.record.judge.Goals as goal
 
 pub returns-else-row_ok : goal.returns-else-row_ok

@@ -1,12 +1,7 @@
 -- The bits of the entries passed are joined.
 use Prim.Native.Nat.{◌≤◌, ◌-◌}
-use mathlib.Core.Path.{refl}
-use native.Mathlib.Omega.{arith}
-use borrow.Author.Rules.{rules}
 use lib.ListN.{length, get_or}
-use Rattle.words.specs.LawsJoined.{Joined, joined_none, joined_more, joined_end}
-use Rattle.words.proofs.list.join.Reads as reads
-use Rattle.words.proofs.list.join.Lts as lts
+use Rattle.words.specs.LawsJoined.{Joined}
 use Rattle.words.proofs.list.join.Given as goal
 
 abbrev pub invariant-loop-i : goal.invariant-loop-i
