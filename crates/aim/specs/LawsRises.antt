@@ -8,7 +8,7 @@ use Rattle.words.specs.LawsChoice.{true_not_false}
 use Rattle.words.specs.LawsWord.{Contains}
 use Rattle.words.specs.LawsTests.{by_eq, not_fails}
 use Rattle.target.specs.Chip.{Chip}
-use Rattle.aim.specs.Wanted.{known, wanted, differs, only_clears, rises, row_differs, row_rises, id_differs, id_rises}
+use Rattle.aim.specs.Wanted.{differs, only_clears, rises, row_differs, row_rises, id_differs, id_rises}
 use Rattle.aim.specs.LawsSome.{some_none, some_weaken}
 
 -- ---- one word

@@ -7,4 +7,3 @@ pub mod LawsFalls
 pub mod LawsPays
 pub mod LawsErasesCounted
 pub mod LawsBytesCounted
-pub mod LawsFewest

@@ -13,7 +13,7 @@ use Rattle.words.specs.LawsChoice.{pick_true, pick_false}
 use Rattle.device.specs.declared.Device.{Device}
 use Rattle.device.specs.Memory.{reading_tail}
 use Rattle.device.specs.Record.{most_words, device_ok}
-use Rattle.device.specs.LawsRecord.{Rules, rules_lem, row}
+use Rattle.device.specs.LawsRecord.{Rules, rules_lem}
 use Rattle.target.specs.Chip.{Chip, chip_of}
 use Rattle.target.specs.LawsChip.{SoundChip, sound_chip}
 use Rattle.target.specs.declared.Order.{Order}

@@ -1,8 +1,4 @@
 -- What the programs' texts come to when one is handed to the next, and the laws in the modules whose names begin with Laws.
 pub mod Rehearsed
-pub mod LawsTold
 pub mod LawsPrinted
 pub mod LawsFront
-pub mod LawsRehearsed
-pub mod LawsAnswers
-pub mod LawsGathered

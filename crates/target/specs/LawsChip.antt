@@ -1,5 +1,5 @@
 -- What the laws need of a chip, the one interface to what a write makes of a word, and that this family's chip has both.
-use Rattle.std.specs.Prelude.{ℕ, ◌+◌, ◌-◌, ◌*◌, ◌/◌, ◌≤◌, ◌<◌, ◌≡◌, true, false, ◌⊎◌, ltb, eqb}
+use Rattle.std.specs.Prelude.{ℕ, ◌+◌, ◌-◌, ◌*◌, ◌/◌, ◌≤◌, ◌<◌, ◌≡◌, true, false, ltb, eqb}
 use Rattle.std.proofs.Common.{arith, ap, ◌∙◌, ⊎_elim, lt-ltb, ltb-true, lt_of_le_of_lt}
 use Rattle.std.specs.Int.Bits.{bit_and}
 use Rattle.std.proofs.lemmas.Nat.{and_le_l}
@@ -10,7 +10,7 @@ use Rattle.words.specs.LawsTests.{or_cases, or_right}
 use Rattle.words.specs.LawsAddress.{entry_program, entry_config}
 use Rattle.device.specs.declared.Device.{Device}
 use Rattle.device.specs.Record.{most_words}
-use Rattle.device.specs.Memory.{cells_tail, reading_tail, is_config, mask_at}
+use Rattle.device.specs.Memory.{is_config, mask_at}
 use Rattle.device.specs.LawsMemory.{config_inside, config_range}
 use Rattle.device.specs.LawsRecord.{Rules, Row, row, whole_rows}
 use Rattle.target.specs.Chip.{Chip, chip_of}

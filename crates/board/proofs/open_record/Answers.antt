@@ -1,7 +1,6 @@
 -- The number by line 1 and the search, and what was found.
 use mathlib.Core.Path.{◌∙◌}
 use Rattle.board.specs.LawsOpen.{opened_by, opened_device, opened_at, opened_len}
-use borrow.Author.Rules.{rules}
 use Rattle.board.proofs.open_record.Goals as goal
 
 pub returns : goal.returns

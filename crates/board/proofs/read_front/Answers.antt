@@ -5,7 +5,6 @@ use mathlib.Core.List.{◌++◌}
 use lib.ListN.{drop}
 use lib.Seq.{length-take-le}
 use Rattle.device.specs.Memory.{reading_tail}
-use borrow.Author.Rules.{rules}
 use Rattle.board.proofs.read_front.Goals as goal
 
 pub slice_bounds-read_sheet-end-2 : goal.slice_bounds-read_sheet-end-2

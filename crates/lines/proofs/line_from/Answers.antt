@@ -1,6 +1,5 @@
 -- What the reader takes is the line that it stands before.
-use Rattle.std.proofs.Common.{refl, rules, ◌∙◌}
-use Rattle.lines.specs.Lines.{line_of, moved_on}
+use Rattle.lines.specs.Lines.{line_of}
 use Rattle.lines.proofs.line_from.Goals as goal
 
 pub returns : goal.returns

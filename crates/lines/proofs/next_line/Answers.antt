@@ -1,6 +1,5 @@
 -- The search for LF ends where the line does, but for a CR.
 use Rattle.lines.specs.LawsNext.{end_after, next_is, next_none}
-use borrow.Author.Rules.{rules}
 use Rattle.lines.proofs.next_line.Goals as goal
 
 pub slice_bounds-line_end-count : goal.slice_bounds-line_end-count

@@ -1,6 +1,5 @@
 -- Below the largest number, or at it.
 use Rattle.lines.specs.LawsNext.{number_more, number_stays}
-use borrow.Author.Rules.{rules}
 use Rattle.lines.proofs.number_after.Goals as goal
 
 pub returns-then-line-lt-MOST_LINE : goal.returns-then-line-lt-MOST_LINE

@@ -2,7 +2,6 @@
 use native.Mathlib.Omega.{arith}
 use Rattle.print.specs.LawsPrint.{number_end}
 use Rattle.print.specs.LawsLines.{refused_end, refused_printed}
-use borrow.Author.Rules.{rules}
 use Rattle.print.proofs.refusal.Goals as goal
 
 pub put_number-third-requires : goal.put_number-third-requires

@@ -2,7 +2,6 @@
 use native.Mathlib.Omega.{arith}
 use Rattle.print.specs.LawsPrint.{number_end, hex_end}
 use Rattle.print.specs.LawsLines.{verdict_40, verdict_alone}
-use borrow.Author.Rules.{rules}
 use Rattle.print.proofs.verdict.Goals as goal
 
 pub put_hex-second-requires : goal.put_hex-second-requires

@@ -2,7 +2,6 @@
 use mathlib.Core.Path.{◌∙◌}
 use Rattle.target.specs.Chip.{chip_of}
 use Rattle.aim.specs.LawsAim.{id_rises_lem}
-use borrow.Author.Rules.{rules}
 use Rattle.aim.proofs.changes.id_rises.Goals as goal
 
 pub returns : goal.returns

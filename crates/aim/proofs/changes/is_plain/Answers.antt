@@ -1,7 +1,6 @@
 -- Each of the three tests holds.
 use Rattle.words.specs.LawsChoice.{true_not_false}
 use mathlib.Core.Path.{refl}
-use borrow.Author.Rules.{rules}
 use Rattle.aim.proofs.changes.is_plain.Goals as goal
 
 pub returns-then-d-past : goal.returns-then-d-past

@@ -3,7 +3,6 @@ use native.Mathlib.Omega.{arith}
 use Rattle.target.specs.Chip.{chip_of}
 use Rattle.device.specs.LawsMemory.{config_below, config_inside, config_past}
 use Rattle.aim.specs.LawsAim.{all_written, id_written, never_written, config_written}
-use borrow.Author.Rules.{rules}
 use Rattle.aim.proofs.changes.is_written.Goals as goal
 
 pub returns-then-all_ids : goal.returns-then-all_ids

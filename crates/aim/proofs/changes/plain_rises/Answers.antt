@@ -1,7 +1,6 @@
 -- A word that the image gives is wanted whole.
 use mathlib.Core.Path.{refl}
 use Rattle.aim.specs.LawsAim.{plain_silent, plain_stays, plain_rises}
-use borrow.Author.Rules.{rules}
 use Rattle.aim.proofs.changes.plain_rises.Goals as goal
 
 pub returns-then-given : goal.returns-then-given

@@ -14,9 +14,9 @@ overflow_add-first c = let m = row_reaches c.args.k c.args.d.row (search rules) 
 
 pub some_plain_rise-requires : goal.some_plain_rise-requires
 some_plain_rise-requires c = record {
-    count_bound = let m = row_reaches c.args.k c.args.d.row (search rules) (search rules) in omega arith;
-    plain = c.is_plain.ensures c.if-is_plain.true;
-  }
+  count_bound = let m = row_reaches c.args.k c.args.d.row (search rules) (search rules) in omega arith;
+  plain = c.is_plain.ensures c.if-is_plain.true;
+}
 
 pub returns-then-is_plain : goal.returns-then-is_plain
 returns-then-is_plain c = c.some_plain_rise.ensures ∙ row_rises_lem (chip_of c.args.d) _ _ _

@@ -1,7 +1,6 @@
 -- None of the words before this one differs.
-use Prim.Native.Nat.{◌+◌, ◌-◌, ◌≤◌}
+use Prim.Native.Nat.{◌+◌}
 use native.Mathlib.Omega.{arith}
-use mathlib.Core.Bool.{false}
 use mathlib.Core.Path.{◌≡◌, sym, ap, ◌∙◌}
 use Rattle.aim.specs.Wanted.{known, wanted, some, differs}
 use Rattle.aim.specs.LawsSome.{some_zero, some_more, some_here}

@@ -1,11 +1,8 @@
 -- None of the words before this one rises.
 use Prim.Native.Nat.{◌+◌, ◌-◌, ◌≤◌}
-use native.Mathlib.Omega.{arith}
 use mathlib.Core.Bool.{false}
-use mathlib.Core.Path.{◌≡◌, sym, ap, ◌∙◌}
+use mathlib.Core.Path.{◌≡◌}
 use Rattle.aim.specs.Wanted.{known, wanted, some, rises}
-use Rattle.aim.specs.LawsSome.{some_zero, some_more, some_here}
-use borrow.Author.Rules.{rules}
 use Rattle.aim.proofs.changes.some_plain_rise.Given as goal
 
 abbrev pub invariant-loop-j : goal.invariant-loop-j

@@ -1,9 +1,6 @@
 -- All characters passed can stand.
 use native.Mathlib.Omega.{arith}
-use Prim.Native.Nat.{◌-◌}
-use lib.ListN.{length}
-use Rattle.hexread.specs.LawsStand.{Standing, standing_none, standing_more, bad_here, bad_end, most_of}
-use borrow.Author.Rules.{rules}
+use Rattle.hexread.specs.LawsStand.{standing_none, standing_more, bad_here, bad_end, most_of}
 use Rattle.hexread.proofs.column.bad_column.Goals as goal
 
 pub loop-i-init : goal.loop-i-init

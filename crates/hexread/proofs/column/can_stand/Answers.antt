@@ -1,6 +1,5 @@
 -- A law for each part of a line.
 use Rattle.hexread.specs.LawsStand.{stand_first, stand_near, stand_beyond, stand_far}
-use borrow.Author.Rules.{rules}
 use Rattle.hexread.proofs.column.can_stand.Goals as goal
 
 pub returns-then-i-eq0 : goal.returns-then-i-eq0

@@ -1,7 +1,6 @@
 -- The line is taken once more.
 use native.Mathlib.Omega.{arith}
 use Rattle.hexread.specs.LawsNext.{start_left, line_again, again_fits, column_again, column_there}
-use borrow.Author.Rules.{rules}
 use Rattle.hexread.proofs.column.column_in.Goals as goal
 
 pub slice_bounds-column_of-count : goal.slice_bounds-column_of-count

@@ -1,7 +1,6 @@
 -- A law for each kind of number.
 use mathlib.Core.Path.{sym, ◌∙◌}
 use Rattle.hexread.specs.LawsTaken.{at_nothing, at_character, at_line, at_line_11, of_word}
-use borrow.Author.Rules.{rules}
 use Rattle.hexread.proofs.column.column_of.Goals as goal
 
 pub returns-then-number-eq0 : goal.returns-then-number-eq0

@@ -1,8 +1,6 @@
 -- So many lines are passed.
 use native.Mathlib.Omega.{arith}
-use Prim.Native.Nat.{◌-◌}
-use Rattle.hexread.specs.LawsNext.{Passed, passed_none, passed_more, passed_all}
-use borrow.Author.Rules.{rules}
+use Rattle.hexread.specs.LawsNext.{passed_none, passed_more, passed_all}
 use Rattle.hexread.proofs.column.start_of.Goals as goal
 
 pub loop-k-init : goal.loop-k-init

@@ -1,6 +1,5 @@
 -- Word 0 of the record.
 use Rattle.hexread.specs.LawsGiveProgram.{first_read}
-use borrow.Author.Rules.{rules}
 use Rattle.hexread.proofs.give.first_entry.Goals as goal
 
 pub returns : goal.returns

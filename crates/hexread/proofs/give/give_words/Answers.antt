@@ -1,7 +1,5 @@
 -- What is left of the record's words gives the rest.
-use Rattle.hexread.specs.LawsGive.{Giving, giving_none, giving_all, giving_7, giving_8, giving_9, giving_on, entry_lt}
-use Prim.Native.Nat.{◌-◌}
-use borrow.Author.Rules.{rules}
+use Rattle.hexread.specs.LawsGive.{giving_none, giving_all, giving_7, giving_8, giving_9, giving_on, entry_lt}
 use native.Mathlib.Omega.{arith}
 use Rattle.hexread.proofs.give.give_words.Goals as goal
 

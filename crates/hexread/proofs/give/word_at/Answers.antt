@@ -1,7 +1,6 @@
 -- Low byte first.
 use Prim.Native.Nat.{◌+◌, ◌*◌}
 use native.Mathlib.Omega.{arith}
-use borrow.Author.Rules.{rules}
 use Rattle.hexread.proofs.give.word_at.Goals as goal
 
 pub overflow_cast-result : goal.overflow_cast-result

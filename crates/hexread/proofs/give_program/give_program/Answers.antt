@@ -1,7 +1,5 @@
 -- What is left of the record's words gives the rest.
-use borrow.Author.Rules.{rules}
-use Rattle.hexread.specs.LawsGiveProgram.{GivingProgram, program_none, program_all, program_8, program_9, program_on}
-use Prim.Native.Nat.{◌-◌}
+use Rattle.hexread.specs.LawsGiveProgram.{program_none, program_all, program_8, program_9, program_on}
 use native.Mathlib.Omega.{arith}
 use Rattle.hexread.proofs.give_program.give_program.Goals as goal
 

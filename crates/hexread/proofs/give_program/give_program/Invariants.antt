@@ -1,8 +1,6 @@
 -- What is left of the record's words gives the rest.
-use borrow.Author.Rules.{rules}
-use Rattle.hexread.specs.LawsGiveProgram.{GivingProgram, program_none, program_all, program_8, program_9, program_on}
+use Rattle.hexread.specs.LawsGiveProgram.{GivingProgram}
 use Prim.Native.Nat.{◌-◌}
-use native.Mathlib.Omega.{arith}
 use Rattle.hexread.proofs.give_program.give_program.Given as goal
 
 abbrev pub invariant-loop-j : goal.invariant-loop-j

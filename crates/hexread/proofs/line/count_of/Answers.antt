@@ -1,6 +1,5 @@
 -- Two digits, if the line is long enough for them.
 use Rattle.hexread.specs.LawsDecode.{no_room, two_digits, no_digit_there}
-use borrow.Author.Rules.{rules}
 use Rattle.hexread.proofs.line.count_of.Goals as goal
 
 pub returns-then-line-lt3 : goal.returns-then-line-lt3

@@ -1,7 +1,6 @@
 -- The bytes passed are stored and added up.
-use Rattle.hexread.specs.LawsDecode.{Decoding, decoding_none, decoding_more, decoding_bad, decoding_all, byte_fits}
+use Rattle.hexread.specs.LawsDecode.{decoding_none, decoding_more, decoding_bad, decoding_all, byte_fits}
 use mathlib.Core.Path.{sym, ◌∙◌}
-use Prim.Native.Nat.{◌-◌}
 use native.Mathlib.Omega.{arith}
 use Rattle.hexread.proofs.line.decode.Goals as goal
 

@@ -1,8 +1,6 @@
 -- The bytes passed are stored and added up.
-use Rattle.hexread.specs.LawsDecode.{Decoding, decoding_none, decoding_more, decoding_bad, decoding_all, byte_fits}
-use mathlib.Core.Path.{sym, ◌∙◌}
+use Rattle.hexread.specs.LawsDecode.{Decoding}
 use Prim.Native.Nat.{◌-◌}
-use native.Mathlib.Omega.{arith}
 use Rattle.hexread.proofs.line.decode.Given as goal
 
 abbrev pub invariant-loop-j : goal.invariant-loop-j

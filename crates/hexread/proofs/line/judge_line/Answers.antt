@@ -1,7 +1,6 @@
 -- Each test in the definition's order.
 use Rattle.hexread.specs.LawsDecode.{judged_2, judged_3, judged_kind}
 use Rattle.hexread.specs.LawsLine.{no_line, no_colon, no_count, wrong_length, no_digits, wrong_sum}
-use borrow.Author.Rules.{rules}
 use Rattle.hexread.proofs.line.judge_line.Goals as goal
 
 pub returns-then-line-eq0 : goal.returns-then-line-eq0

@@ -1,7 +1,6 @@
 -- High byte first.
 use mathlib.Core.Path.{refl}
 use native.Mathlib.Omega.{arith}
-use borrow.Author.Rules.{rules}
 use Rattle.hexread.proofs.line.offset_of.Goals as goal
 
 pub overflow_cast-result : goal.overflow_cast-result

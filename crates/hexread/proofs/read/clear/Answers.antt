@@ -1,9 +1,6 @@
 -- The entries passed are not given.
 use native.Mathlib.Omega.{arith}
-use Prim.Native.Nat.{◌-◌}
-use lib.ListN.{length}
-use Rattle.hexread.specs.LawsReader.{Clearing, clearing_none, clearing_more, clearing_all}
-use borrow.Author.Rules.{rules}
+use Rattle.hexread.specs.LawsReader.{clearing_none, clearing_more, clearing_all}
 use Rattle.hexread.proofs.read.clear.Goals as goal
 
 pub loop-i-init : goal.loop-i-init

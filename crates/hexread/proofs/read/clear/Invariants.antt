@@ -1,9 +1,7 @@
 -- The entries passed are not given.
-use native.Mathlib.Omega.{arith}
 use Prim.Native.Nat.{◌-◌}
 use lib.ListN.{length}
-use Rattle.hexread.specs.LawsReader.{Clearing, clearing_none, clearing_more, clearing_all}
-use borrow.Author.Rules.{rules}
+use Rattle.hexread.specs.LawsReader.{Clearing}
 use Rattle.hexread.proofs.read.clear.Given as goal
 
 abbrev pub invariant-loop-i : goal.invariant-loop-i

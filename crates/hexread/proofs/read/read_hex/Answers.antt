@@ -2,7 +2,6 @@
 use mathlib.Core.Path.{sym, ◌∙◌}
 use Rattle.device.specs.LawsRecord.{ok_of_judged, bad_of_judged}
 use Rattle.hexread.specs.LawsReader.{hex_13, hex_12, hex_1, hex_read, hex_refused}
-use borrow.Author.Rules.{rules}
 use Rattle.hexread.proofs.read.read_hex.Goals as goal
 
 pub returns-then-judge-ne0 : goal.returns-then-judge-ne0

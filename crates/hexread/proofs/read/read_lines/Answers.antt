@@ -1,10 +1,7 @@
 -- The lines ahead give the rest.
 use Rattle.hexread.specs.LawsNext.{line_left, ahead_next, refused_next}
-use Rattle.hexread.specs.LawsReader.{Ahead, ahead_all, lines_ended, lines_not_ended}
-use lib.ListN.{length}
-use mathlib.Core.Path.{◌≡◌, refl, sym, ◌∙◌}
-use Prim.Native.Nat.{◌-◌, ◌+◌}
-use borrow.Author.Rules.{rules}
+use Rattle.hexread.specs.LawsReader.{ahead_all, lines_ended, lines_not_ended}
+use mathlib.Core.Path.{refl, sym, ◌∙◌}
 use native.Mathlib.Omega.{arith}
 use Rattle.hexread.proofs.read.read_lines.Goals as goal
 

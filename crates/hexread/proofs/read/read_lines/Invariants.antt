@@ -1,11 +1,8 @@
 -- The lines ahead give the rest.
-use Rattle.hexread.specs.LawsNext.{line_left, ahead_next, refused_next}
-use Rattle.hexread.specs.LawsReader.{Ahead, ahead_all, lines_ended, lines_not_ended}
+use Rattle.hexread.specs.LawsReader.{Ahead}
 use lib.ListN.{length}
-use mathlib.Core.Path.{◌≡◌, refl, sym, ◌∙◌}
+use mathlib.Core.Path.{◌≡◌}
 use Prim.Native.Nat.{◌-◌, ◌+◌}
-use borrow.Author.Rules.{rules}
-use native.Mathlib.Omega.{arith}
 use Rattle.hexread.proofs.read.read_lines.Given as goal
 
 abbrev pub invariant-loop-at : goal.invariant-loop-at

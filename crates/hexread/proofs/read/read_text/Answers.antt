@@ -1,6 +1,5 @@
 -- No line is to blame, or one that has a column.
 use Rattle.hexread.specs.LawsReader.{line_some, text_whole, text_refused}
-use borrow.Author.Rules.{rules}
 use Rattle.hexread.proofs.read.read_text.Goals as goal
 
 pub returns-then-s-eq0 : goal.returns-then-s-eq0

@@ -1,7 +1,6 @@
 -- Both ways give the same.
 use mathlib.Core.Path.{refl}
 use native.Mathlib.Omega.{arith}
-use borrow.Author.Rules.{rules}
 use Rattle.hexread.proofs.step.give_record.Goals as goal
 
 pub overflow_cast-n : goal.overflow_cast-n

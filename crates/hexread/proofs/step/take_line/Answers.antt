@@ -1,6 +1,5 @@
 -- One way through for each kind of line.
 use Rattle.hexread.specs.LawsTaken.{line_skipped, line_after, line_bad, line_record}
-use borrow.Author.Rules.{rules}
 use Rattle.hexread.proofs.step.take_line.Goals as goal
 
 pub returns-then-line-eq0 : goal.returns-then-line-eq0

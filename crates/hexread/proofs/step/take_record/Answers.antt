@@ -4,7 +4,6 @@ use Rattle.hexread.specs.LawsReader.{record_end, record_upper}
 use Rattle.hexread.specs.LawsTaken.{taken_plain, taken_data}
 use mathlib.Core.Path.{refl}
 use native.Mathlib.Omega.{arith}
-use borrow.Author.Rules.{rules}
 use Rattle.hexread.proofs.step.take_record.Goals as goal
 
 pub returns-then-kind-eq0 : goal.returns-then-kind-eq0

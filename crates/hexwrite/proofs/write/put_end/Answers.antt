@@ -1,7 +1,6 @@
 -- A record without data.
 use Rattle.hexwrite.specs.LawsWritePut.{end_put}
 use native.Mathlib.Omega.{arith}
-use borrow.Author.Rules.{rules}
 use Rattle.hexwrite.proofs.write.put_end.Goals as goal
 
 pub put_sum-requires : goal.put_sum-requires

@@ -1,9 +1,6 @@
 -- Where the loop stands is one record over its variables.
-use Rattle.hexwrite.specs.LawsWrite.{left_room}
-use Rattle.hexwrite.specs.LawsWritePut.{Turn, turn_first, turn_skip, turn_room, turn_on, turn_done}
-use Prim.Native.Nat.{◌-◌}
+use Rattle.hexwrite.specs.LawsWritePut.{turn_first, turn_skip, turn_room, turn_on, turn_done}
 use native.Mathlib.Omega.{arith}
-use lib.ListN.{length}
 use Rattle.hexwrite.proofs.write.put_entries.Goals as goal
 
 pub loop-i-init : goal.loop-i-init

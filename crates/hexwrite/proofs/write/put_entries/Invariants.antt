@@ -1,8 +1,6 @@
 -- Where the loop stands is one record over its variables.
-use Rattle.hexwrite.specs.LawsWrite.{left_room}
-use Rattle.hexwrite.specs.LawsWritePut.{Turn, turn_first, turn_skip, turn_room, turn_on, turn_done}
+use Rattle.hexwrite.specs.LawsWritePut.{Turn}
 use Prim.Native.Nat.{◌-◌}
-use native.Mathlib.Omega.{arith}
 use lib.ListN.{length}
 use Rattle.hexwrite.proofs.write.put_entries.Given as goal
 

@@ -1,7 +1,6 @@
 -- The entries, and then the end record.
 use Rattle.hexwrite.specs.LawsWrite.{capitals_told}
 use Rattle.hexwrite.specs.LawsWritePut.{entries_room, end_room, text_put}
-use borrow.Author.Rules.{rules}
 use Rattle.hexwrite.proofs.write.put_text.Goals as goal
 
 pub put_entries-at-requires : goal.put_entries-at-requires

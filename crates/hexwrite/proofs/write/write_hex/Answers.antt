@@ -1,6 +1,5 @@
 -- A law for each way out.
 use Rattle.hexwrite.specs.LawsWritePut.{judged_sound, text_room, wrote_13, wrote_20, wrote_26, wrote_0}
-use borrow.Author.Rules.{rules}
 use Rattle.hexwrite.proofs.write.write_hex.Goals as goal
 
 pub returns-then-judge-ne0 : goal.returns-then-judge-ne0

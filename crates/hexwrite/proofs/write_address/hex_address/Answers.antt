@@ -1,6 +1,6 @@
 -- An entry of the image always has a place.
 use Rattle.hexwrite.specs.LawsWriteRun.{address_at, address_nowhere}
-use Rattle.std.proofs.Common.{rules, refl}
+use Rattle.std.proofs.Common.{refl}
 use Rattle.hexwrite.proofs.write_address.hex_address.Goals as goal
 
 pub returns-in-At : goal.returns-in-At

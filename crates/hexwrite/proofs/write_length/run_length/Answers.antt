@@ -1,7 +1,6 @@
 -- A run's record, and the upper half's where it changes.
 use Rattle.hexwrite.specs.LawsWriteText.{run_same, run_new}
 use native.Mathlib.Omega.{arith}
-use borrow.Author.Rules.{rules}
 use Rattle.hexwrite.proofs.write_length.run_length.Goals as goal
 
 pub returns-then-half-upper : goal.returns-then-half-upper

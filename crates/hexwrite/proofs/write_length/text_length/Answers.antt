@@ -1,9 +1,7 @@
 -- What is counted and what is left make the whole.
 use Rattle.hexwrite.specs.LawsWriteRun.{upper_read}
-use Rattle.hexwrite.specs.LawsWriteText.{Counted, counted_first, counted_skip, counted_on, counted_all}
-use Prim.Native.Nat.{◌-◌}
+use Rattle.hexwrite.specs.LawsWriteText.{counted_first, counted_skip, counted_on, counted_all}
 use native.Mathlib.Omega.{arith}
-use lib.ListN.{length}
 use Rattle.hexwrite.proofs.write_length.text_length.Goals as goal
 
 pub loop-i-init : goal.loop-i-init

@@ -1,8 +1,6 @@
 -- What is counted and what is left make the whole.
-use Rattle.hexwrite.specs.LawsWriteRun.{upper_read}
-use Rattle.hexwrite.specs.LawsWriteText.{Counted, counted_first, counted_skip, counted_on, counted_all}
+use Rattle.hexwrite.specs.LawsWriteText.{Counted}
 use Prim.Native.Nat.{◌-◌}
-use native.Mathlib.Omega.{arith}
 use lib.ListN.{length}
 use Rattle.hexwrite.proofs.write_length.text_length.Given as goal
 

@@ -1,9 +1,8 @@
 -- A colon and four bytes, one after the other.
 use Rattle.hexwrite.specs.LawsWrite.{head_put}
 use lib.ListN.{length-set}
-use mathlib.Core.Path.{refl, ◌∙◌}
+use mathlib.Core.Path.{refl}
 use native.Mathlib.Omega.{arith}
-use borrow.Author.Rules.{rules}
 use Rattle.hexwrite.proofs.write_record.put_head.Goals as goal
 
 pub put_pair-requires : goal.put_pair-requires

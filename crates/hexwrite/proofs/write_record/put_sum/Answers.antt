@@ -1,6 +1,5 @@
 -- The sum's digits, and LF.
 use Rattle.hexwrite.specs.LawsWrite.{sum_put}
-use borrow.Author.Rules.{rules}
 use Rattle.hexwrite.proofs.write_record.put_sum.Goals as goal
 
 pub returns : goal.returns

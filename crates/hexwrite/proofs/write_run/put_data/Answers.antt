@@ -1,7 +1,6 @@
 -- The head, the words, and the sum of both.
 use Rattle.hexwrite.specs.LawsWriteRun.{data_put}
 use native.Mathlib.Omega.{arith}
-use borrow.Author.Rules.{rules}
 use Rattle.hexwrite.proofs.write_run.put_data.Goals as goal
 
 pub put_words-sum-requires : goal.put_words-sum-requires

@@ -1,6 +1,5 @@
 -- The upper half, and then the data.
 use Rattle.hexwrite.specs.LawsWriteRun.{half_room, rest_room, run_put}
-use borrow.Author.Rules.{rules}
 use Rattle.hexwrite.proofs.write_run.put_run.Goals as goal
 
 pub put_upper-next-requires : goal.put_upper-next-requires

@@ -1,7 +1,6 @@
 -- The record is put only where the upper half changes.
 use Rattle.hexwrite.specs.LawsWriteRun.{upper_kept, upper_put, length_new}
 use native.Mathlib.Omega.{arith}
-use borrow.Author.Rules.{rules}
 use Rattle.hexwrite.proofs.write_run.put_upper.Goals as goal
 
 pub returns-then-next-upper : goal.returns-then-next-upper

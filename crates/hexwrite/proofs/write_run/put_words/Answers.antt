@@ -1,6 +1,5 @@
 -- What is still to be put, and still to be added.
-use Rattle.hexwrite.specs.LawsWriteRun.{Putting, putting_first, putting_on, putting_done}
-use Prim.Native.Nat.{◌-◌}
+use Rattle.hexwrite.specs.LawsWriteRun.{putting_first, putting_on, putting_done}
 use native.Mathlib.Omega.{arith}
 use Rattle.hexwrite.proofs.write_run.put_words.Goals as goal
 

@@ -1,7 +1,6 @@
 -- What is still to be put, and still to be added.
-use Rattle.hexwrite.specs.LawsWriteRun.{Putting, putting_first, putting_on, putting_done}
+use Rattle.hexwrite.specs.LawsWriteRun.{Putting}
 use Prim.Native.Nat.{◌-◌}
-use native.Mathlib.Omega.{arith}
 use Rattle.hexwrite.proofs.write_run.put_words.Given as goal
 
 abbrev pub invariant-loop-i : goal.invariant-loop-i

@@ -1,6 +1,5 @@
 -- The block's end, or all entries' end.
 use Rattle.hexwrite.specs.LawsWriteStop.{block_ends, image_ends}
-use borrow.Author.Rules.{rules}
 use Rattle.hexwrite.proofs.write_stop.block_stop.Goals as goal
 
 pub returns-then-stop-count : goal.returns-then-stop-count

@@ -1,7 +1,5 @@
 -- The entries passed are given and in one block.
-use Rattle.hexwrite.specs.LawsWriteStop.{Going, going_first, going_on, run_gap, run_whole}
-use Prim.Native.Nat.{◌-◌}
-use native.Mathlib.Omega.{arith}
+use Rattle.hexwrite.specs.LawsWriteStop.{going_first, going_on, run_gap, run_whole}
 use Rattle.hexwrite.proofs.write_stop.run_stop.Goals as goal
 
 pub block_stop-stop-requires : goal.block_stop-stop-requires

@@ -1,7 +1,6 @@
 -- The entries passed are given and in one block.
-use Rattle.hexwrite.specs.LawsWriteStop.{Going, going_first, going_on, run_gap, run_whole}
+use Rattle.hexwrite.specs.LawsWriteStop.{Going}
 use Prim.Native.Nat.{◌-◌}
-use native.Mathlib.Omega.{arith}
 use Rattle.hexwrite.proofs.write_stop.run_stop.Given as goal
 
 abbrev pub invariant-loop-i : goal.invariant-loop-i

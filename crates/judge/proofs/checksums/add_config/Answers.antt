@@ -1,7 +1,6 @@
 -- Each word under its mask.
 use native.Mathlib.Omega.{arith}
 use Rattle.judge.specs.LawsChecksum.{config_of}
-use borrow.Author.Rules.{rules}
 use Rattle.judge.proofs.checksums.add_config.Goals as goal
 
 pub returns : goal.returns

@@ -1,10 +1,7 @@
 -- The words passed are added up.
 use Prim.Native.Nat.{◌*◌, ◌-◌, ◌≤◌}
-use mathlib.Core.Path.{◌≡◌, sym}
-use native.Mathlib.Omega.{arith}
-use borrow.Author.Rules.{rules}
+use mathlib.Core.Path.{◌≡◌}
 use Rattle.judge.specs.Checksum.{sum_to}
-use Rattle.judge.specs.LawsChecksum.{sum_none, sum_on, sum_end}
 use Rattle.judge.proofs.checksums.add_words.Given as goal
 
 abbrev pub invariant-loop-i : goal.invariant-loop-i

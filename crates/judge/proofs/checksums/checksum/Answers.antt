@@ -3,7 +3,6 @@ use mathlib.Core.Path.{sym, ◌∙◌, ap}
 use Rattle.device.specs.LawsRecord.{ok_of_judged, rules_of_judged, bad_of_judged}
 use Rattle.device.specs.LawsMemory.{reading_long}
 use Rattle.judge.specs.LawsChecksum.{summed_13, summed_21, summed_0}
-use borrow.Author.Rules.{rules}
 use Rattle.judge.proofs.checksums.checksum.Goals as goal
 
 pub returns-then-judge-ne0 : goal.returns-then-judge-ne0

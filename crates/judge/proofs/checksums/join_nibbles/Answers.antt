@@ -1,7 +1,6 @@
 -- The four nibbles in their places.
 use native.Mathlib.Omega.{arith}
 use Rattle.judge.specs.LawsChecksum.{nibbles_of}
-use borrow.Author.Rules.{rules}
 use Rattle.judge.proofs.checksums.join_nibbles.Goals as goal
 
 pub returns : goal.returns

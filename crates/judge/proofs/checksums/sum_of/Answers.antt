@@ -1,7 +1,6 @@
 -- By the bit that tells whether the board is protected.
 use mathlib.Core.Path.{sym, ◌∙◌}
 use Rattle.judge.specs.LawsChecksum.{sum_hidden_of, sum_shown_of}
-use borrow.Author.Rules.{rules}
 use Rattle.judge.proofs.checksums.sum_of.Goals as goal
 
 pub returns-then-is_protected : goal.returns-then-is_protected

@@ -1,9 +1,5 @@
 -- The same where all four answers are 0.
-use borrow.Author.Rules.{rules}
 use Rattle.judge.specs.LawsStretch.{four_same}
-use Rattle.judge.proofs.stretch.other_in_four.Reads as reads
-use Rattle.judge.proofs.stretch.other_in_four.Lts as lts
-use Rattle.judge.proofs.stretch.other.Reads as other_reads
 use Rattle.judge.proofs.stretch.other_in_four.Goals as goal
 
 pub returns : goal.returns

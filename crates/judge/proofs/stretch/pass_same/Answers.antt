@@ -1,12 +1,6 @@
 -- The words passed are the same.
-use Prim.Native.Nat.{◌-◌}
 use native.Mathlib.Omega.{arith}
-use mathlib.Core.Path.{◌≡◌}
-use lib.ListN.{length}
-use Rattle.judge.specs.LawsStretch.{Same, same_none, same_more}
-use Rattle.judge.proofs.stretch.pass_same.Reads as reads
-use Rattle.judge.proofs.stretch.pass_same.Lts as lts
-use Rattle.judge.proofs.stretch.other_in_four.Reads as other_in_four_reads
+use Rattle.judge.specs.LawsStretch.{same_none, same_more}
 use Rattle.judge.proofs.stretch.pass_same.Goals as goal
 
 pub loop-i-init : goal.loop-i-init

@@ -1,8 +1,7 @@
 -- Every entry of a reading has its address.
-use mathlib.Core.Path.{sym, ap, ◌∙◌}
+use mathlib.Core.Path.{ap, ◌∙◌}
 use native.Mathlib.Omega.{arith}
 use Rattle.judge.specs.LawsVerify.{place_address, word_of_entry}
-use borrow.Author.Rules.{rules}
 use Rattle.judge.proofs.verdicts.address.Goals as goal
 
 pub returns-in-At : goal.returns-in-At

@@ -1,7 +1,6 @@
 -- Program words by the bit that hides them, all others as they stand.
 use mathlib.Core.Path.{sym, ◌∙◌}
 use Rattle.judge.specs.LawsVerify.{judged_program, judged_above}
-use borrow.Author.Rules.{rules}
 use Rattle.judge.proofs.verdicts.is_judged.Goals as goal
 
 pub returns-then-i-program : goal.returns-then-i-program

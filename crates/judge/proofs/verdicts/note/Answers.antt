@@ -1,5 +1,4 @@
 -- The three ways on.
-use native.Mathlib.Omega.{arith}
 use Rattle.judge.specs.LawsCount.{noted_new, noted_again, noted_same}
 use Rattle.judge.proofs.verdicts.note.Goals as goal
 

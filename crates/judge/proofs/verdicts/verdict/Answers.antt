@@ -3,7 +3,6 @@ use mathlib.Core.Path.{sym, ◌∙◌}
 use native.Mathlib.Nat.{pos_of_ne-zero}
 use Rattle.judge.specs.LawsCount.{found_within}
 use Rattle.judge.specs.LawsVerify.{found_0, found_41, found_40}
-use borrow.Author.Rules.{rules}
 use Rattle.judge.proofs.verdicts.verdict.Goals as goal
 
 pub returns-then-hidden : goal.returns-then-hidden

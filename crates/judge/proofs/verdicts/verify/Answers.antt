@@ -3,7 +3,6 @@ use mathlib.Core.Path.{sym, ◌∙◌}
 use Rattle.device.specs.LawsRecord.{ok_of_judged, rules_of_judged, bad_of_judged}
 use Rattle.device.specs.LawsMemory.{reading_long}
 use Rattle.judge.specs.LawsVerify.{verified_13, verified_21_wanted, verified_21_reading, verified_judged}
-use borrow.Author.Rules.{rules}
 use Rattle.judge.proofs.verdicts.verify.Goals as goal
 
 pub returns-then-judge-ne0 : goal.returns-then-judge-ne0

@@ -1,6 +1,5 @@
 -- No LF where all four answers are 0.
 use Rattle.lines.specs.LawsScan.{four_none}
-use borrow.Author.Rules.{rules}
 use Rattle.lines.proofs.scan.lf_in_four.Goals as goal
 
 pub returns : goal.returns

@@ -1,6 +1,5 @@
 -- One CR at most is taken off.
 use Rattle.lines.specs.LawsLine.{ended_empty, ended_cr, ended_other}
-use borrow.Author.Rules.{rules}
 use Rattle.lines.proofs.scan.line_end.Goals as goal
 
 pub returns-then-n-eq0 : goal.returns-then-n-eq0

@@ -1,6 +1,5 @@
 -- The search from there on ends where the line does.
 use Rattle.lines.specs.LawsScan.{stop_found}
-use borrow.Author.Rules.{rules}
 use Rattle.lines.proofs.scan.line_stop.Goals as goal
 
 pub returns : goal.returns

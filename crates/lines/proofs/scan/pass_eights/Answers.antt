@@ -1,7 +1,5 @@
 -- The bytes passed have no LF.
-use Rattle.lines.specs.LawsScan.{Passing, passing_none, passing_more}
-use lib.ListN.{length}
-use Prim.Native.Nat.{◌-◌}
+use Rattle.lines.specs.LawsScan.{passing_none, passing_more}
 use native.Mathlib.Omega.{arith}
 use Rattle.lines.proofs.scan.pass_eights.Goals as goal
 

@@ -1,8 +1,7 @@
 -- The bytes passed have no LF.
-use Rattle.lines.specs.LawsScan.{Passing, passing_none, passing_more}
+use Rattle.lines.specs.LawsScan.{Passing}
 use lib.ListN.{length}
 use Prim.Native.Nat.{◌-◌}
-use native.Mathlib.Omega.{arith}
 use Rattle.lines.proofs.scan.pass_eights.Given as goal
 
 abbrev pub invariant-loop-i : goal.invariant-loop-i

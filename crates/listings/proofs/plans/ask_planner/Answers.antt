@@ -1,6 +1,5 @@
 -- One of the two planners.
 use Rattle.listings.specs.LawsPlans.{plans_fresh, plans_update}
-use borrow.Author.Rules.{rules}
 use Rattle.listings.proofs.plans.ask_planner.Goals as goal
 
 pub returns-then-fresh : goal.returns-then-fresh

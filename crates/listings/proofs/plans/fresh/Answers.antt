@@ -2,7 +2,6 @@
 use Rattle.print.specs.LawsPrint.{prints_as, printed}
 use Rattle.listings.specs.LawsPlans.{fresh_is}
 use Rattle.listings.specs.LawsBounds.{fresh_short}
-use borrow.Author.Rules.{rules}
 use Rattle.listings.proofs.plans.fresh.Goals as goal
 
 pub returns : goal.returns

@@ -4,7 +4,6 @@ use Rattle.device.specs.LawsMemory.{reading_long}
 use Rattle.print.specs.LawsPrint.{prints_as}
 use Rattle.listings.specs.LawsPlanned.{plan_ready}
 use Rattle.listings.specs.LawsPlans.{end_left, end_stream, plan_few}
-use borrow.Author.Rules.{rules}
 use Rattle.listings.proofs.plans.put_planned.Goals as goal
 
 pub ask_planner-planned-requires : goal.ask_planner-planned-requires

@@ -4,7 +4,6 @@ use Rattle.print.specs.LawsPrint.{prints_as}
 use Rattle.sheet.specs.LawsFirstLine.{first_small}
 use Rattle.board.specs.LawsBoard.{board_opened, other_room, other_long}
 use Rattle.listings.specs.LawsPlans.{program_refused, program_long, program_hex, program_within, program_front, program_found}
-use borrow.Author.Rules.{rules}
 use Rattle.listings.proofs.plans.put_program.Goals as goal
 
 pub returns-then-opened-ne0 : goal.returns-then-opened-ne0

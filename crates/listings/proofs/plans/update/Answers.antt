@@ -2,7 +2,6 @@
 use Rattle.print.specs.LawsPrint.{prints_as, printed}
 use Rattle.listings.specs.LawsPlans.{update_is}
 use Rattle.listings.specs.LawsBounds.{update_short}
-use borrow.Author.Rules.{rules}
 use Rattle.listings.proofs.plans.update.Goals as goal
 
 pub returns : goal.returns

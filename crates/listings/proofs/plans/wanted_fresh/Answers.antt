@@ -2,7 +2,6 @@
 use Rattle.print.specs.LawsPrint.{prints_as, printed}
 use Rattle.listings.specs.LawsPlans.{wanted_fresh_is}
 use Rattle.listings.specs.LawsBounds.{wanted_fresh_short}
-use borrow.Author.Rules.{rules}
 use Rattle.listings.proofs.plans.wanted_fresh.Goals as goal
 
 pub returns : goal.returns

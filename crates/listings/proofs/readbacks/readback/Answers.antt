@@ -4,7 +4,6 @@ use Rattle.print.specs.LawsPrint.{prints_as, printed}
 use Rattle.board.specs.LawsOpen.{opened_serves}
 use Rattle.listings.specs.LawsPlanned.{plan_ready, read_back_few, readback_refused, readback_found}
 use Rattle.listings.specs.LawsBounds.{readback_short}
-use borrow.Author.Rules.{rules}
 use Rattle.listings.proofs.readbacks.readback.Goals as goal
 
 pub returns-then-opened-ne0 : goal.returns-then-opened-ne0

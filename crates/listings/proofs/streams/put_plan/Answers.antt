@@ -3,7 +3,6 @@ use mathlib.Core.Path.{sym}
 use lib.Seq.{length-take-le}
 use Rattle.print.specs.LawsPrint.{prints_as}
 use Rattle.listings.specs.LawsPlanned.{plan_text_refused, plan_text_found, part_few}
-use borrow.Author.Rules.{rules}
 use Rattle.listings.proofs.streams.put_plan.Goals as goal
 
 pub returns-then-planned-ne0 : goal.returns-then-planned-ne0

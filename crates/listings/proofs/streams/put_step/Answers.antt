@@ -1,6 +1,5 @@
 -- Five parts, one after another.
 use Rattle.listings.specs.LawsStreams.{step_printed}
-use borrow.Author.Rules.{rules}
 use Rattle.listings.proofs.streams.put_step.Goals as goal
 
 pub returns : goal.returns

@@ -1,8 +1,6 @@
 -- A step in each turn; what is left to print gets shorter.
 use native.Mathlib.Omega.{arith}
-use Prim.Native.Nat.{◌-◌}
-use lib.ListN.{length}
-use Rattle.listings.specs.LawsStreams.{Printing, printing_all, printing_step, printing_done}
+use Rattle.listings.specs.LawsStreams.{printing_all, printing_step, printing_done}
 use Rattle.listings.proofs.streams.put_stream.Goals as goal
 
 pub loop-i-init : goal.loop-i-init

@@ -1,8 +1,7 @@
 -- A step in each turn; what is left to print gets shorter.
-use native.Mathlib.Omega.{arith}
 use Prim.Native.Nat.{◌-◌}
 use lib.ListN.{length}
-use Rattle.listings.specs.LawsStreams.{Printing, printing_all, printing_step, printing_done}
+use Rattle.listings.specs.LawsStreams.{Printing}
 use Rattle.listings.proofs.streams.put_stream.Given as goal
 
 abbrev pub invariant-loop-i : goal.invariant-loop-i

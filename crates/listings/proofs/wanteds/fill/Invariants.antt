@@ -1,12 +1,9 @@
 -- Each word passed is stored, and the rest is as it was.
 use Prim.Native.Nat.{◌-◌, ◌≤◌}
-use mathlib.Core.Path.{◌≡◌, refl, sym, ◌∙◌}
-use native.Mathlib.Omega.{arith}
-use lib.ListN.{length, length-set}
+use mathlib.Core.Path.{◌≡◌}
+use lib.ListN.{length}
 use Rattle.words.specs.Lists.{overlay}
-use Rattle.words.specs.LawsLists.{overlay_none}
-use Rattle.listings.specs.LawsLeft.{left_word, fill_more, fill_done}
-use borrow.Author.Rules.{rules}
+use Rattle.listings.specs.LawsLeft.{left_word}
 use Rattle.listings.proofs.wanteds.fill.Given as goal
 
 abbrev pub invariant-loop-i : goal.invariant-loop-i

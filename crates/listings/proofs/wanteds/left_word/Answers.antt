@@ -1,6 +1,5 @@
 -- A word that stays, or the wanted one of either planner.
 use Rattle.listings.specs.LawsLeft.{left_other, left_fresh, left_update}
-use borrow.Author.Rules.{rules}
 use Rattle.listings.proofs.wanteds.left_word.Goals as goal
 
 pub returns-else-programmable : goal.returns-else-programmable

@@ -4,7 +4,6 @@ use Rattle.device.specs.LawsMemory.{reading_long}
 use Rattle.print.specs.LawsPrint.{prints_as}
 use Rattle.board.specs.LawsBoard.{served_room, served_long}
 use Rattle.listings.specs.LawsLeft.{left_refused, left_within, left_part, left_sound, left_found}
-use borrow.Author.Rules.{rules}
 use Rattle.listings.proofs.wanteds.put_left.Goals as goal
 
 pub returns-then-number-ne0 : goal.returns-then-number-ne0

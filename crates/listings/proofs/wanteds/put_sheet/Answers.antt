@@ -7,7 +7,6 @@ use lib.Seq.{length-take-le}
 use Rattle.print.specs.LawsPrint.{prints_as}
 use Rattle.sheetwrite.specs.LawsWrite.{written_short}
 use Rattle.board.specs.LawsWritten.{sheet_whole}
-use borrow.Author.Rules.{rules}
 use Rattle.listings.proofs.wanteds.put_sheet.Goals as goal
 
 pub slice_bounds-sheet-end : goal.slice_bounds-sheet-end

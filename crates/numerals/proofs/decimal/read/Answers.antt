@@ -2,7 +2,6 @@
 use mathlib.Core.Path.{sym, ◌∙◌}
 use native.Mathlib.Omega.{arith}
 use Rattle.numerals.specs.LawsDecimal.{decimal_empty, decimal_leading, decimal_other, decimal_single}
-use borrow.Author.Rules.{rules}
 use Rattle.numerals.proofs.decimal.read.Goals as goal
 
 pub returns-then-s-eq0 : goal.returns-then-s-eq0

@@ -1,10 +1,8 @@
 -- What is left to read, digit by digit.
-use Prim.Native.Nat.{◌≤◌, ◌-◌}
-use mathlib.Core.Path.{◌≡◌, refl, sym, ◌∙◌}
+use mathlib.Core.Path.{refl, sym, ◌∙◌}
 use native.Mathlib.Omega.{arith}
-use lib.ListN.{length, drop}
 use borrow.Author.Rules.{rules}
-use Rattle.numerals.specs.LawsDecimal.{left_of, left_end, left_on, left_low, left_high, left_over}
+use Rattle.numerals.specs.LawsDecimal.{left_end, left_on, left_low, left_high, left_over}
 use Rattle.numerals.proofs.decimal.read_digits.Goals as goal
 
 pub loop-i-init : goal.loop-i-init

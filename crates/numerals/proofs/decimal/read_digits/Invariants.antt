@@ -1,10 +1,8 @@
 -- What is left to read, digit by digit.
 use Prim.Native.Nat.{◌≤◌, ◌-◌}
-use mathlib.Core.Path.{◌≡◌, refl, sym, ◌∙◌}
-use native.Mathlib.Omega.{arith}
+use mathlib.Core.Path.{◌≡◌}
 use lib.ListN.{length, drop}
-use borrow.Author.Rules.{rules}
-use Rattle.numerals.specs.LawsDecimal.{left_of, left_end, left_on, left_low, left_high, left_over}
+use Rattle.numerals.specs.LawsDecimal.{left_of}
 use Rattle.numerals.proofs.decimal.read_digits.Given as goal
 
 abbrev pub invariant-loop-i : goal.invariant-loop-i

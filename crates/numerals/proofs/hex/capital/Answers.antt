@@ -1,7 +1,6 @@
 -- Below the small letters the two readings agree.
 use Rattle.numerals.specs.LawsHex.{capital_low, capital_high}
 use mathlib.Core.Path.{sym, ◌∙◌}
-use borrow.Author.Rules.{rules}
 use Rattle.numerals.proofs.hex.capital.Goals as goal
 
 pub returns-then-c-lt97 : goal.returns-then-c-lt97

@@ -7,9 +7,8 @@ use mathlib.Core.Path.{◌≡◌, sym, ◌∙◌}
 use mathlib.Core.Bool.{Bool, true, false}
 use lib.Dec.{leb}
 use borrow.Author.Tests.{leb-true}
-use borrow.Author.Rules.{rules}
 use Rattle.words.specs.Choice.{pick}
-use Rattle.words.specs.LawsChoice.{first_holds, second_holds, decided, true_not_false}
+use Rattle.words.specs.LawsChoice.{first_holds, second_holds, true_not_false}
 use Rattle.numerals.specs.Hex.{within, digit_of}
 use Rattle.numerals.specs.LawsHex.{within_yes, within_low, within_high}
 use Rattle.numerals.proofs.hex.digit.Goals as goal

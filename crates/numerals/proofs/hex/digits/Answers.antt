@@ -1,10 +1,9 @@
 -- Each place below i has the value of its character.
-use Prim.Native.Nat.{ℕ, ◌+◌, ◌-◌, ◌≤◌}
+use Prim.Native.Nat.{ℕ, ◌+◌}
 use native.Mathlib.Nat.{zero-add}
 use native.Mathlib.Omega.{arith}
 use mathlib.Core.Path.{◌≡◌, sym, ap, ◌∙◌}
 use mathlib.Core.List.{List}
-use borrow.Author.Rules.{rules}
 use lib.ListN.{length, set}
 use Rattle.words.specs.Lists.{build, overlay}
 use Rattle.words.specs.LawsLists.{built, length_overlay, overlay_inside, overlay_none, overlay_more}

@@ -1,14 +1,11 @@
 -- The words from here on are left to be written.
 use Prim.Native.Nat.{◌+◌, ◌-◌, ◌≤◌}
-use native.Mathlib.Omega.{arith}
-use mathlib.Core.Path.{◌≡◌, refl, sym, ◌∙◌}
+use mathlib.Core.Path.{◌≡◌}
 use lib.ListN.{length}
 use Rattle.target.specs.Chip.{chip_of}
 use Rattle.aim.specs.Wanted.{known, wanted, config_writes}
 use Rattle.plan.specs.Steps.{writes_from}
-use Rattle.plan.specs.LawsPlanSteps.{writes_yes, writes_no, writes_none, word_same}
-use Rattle.plan.specs.LawsPlanWrote.{Left, left_all, left_same, left_then, left_none, room_part, room_same, wrote_same}
-use borrow.Author.Rules.{rules}
+use Rattle.plan.specs.LawsPlanWrote.{Left}
 use Rattle.plan.proofs.config.put_writes.Given as goal
 
 abbrev pub invariant-loop-k : goal.invariant-loop-k

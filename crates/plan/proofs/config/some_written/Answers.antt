@@ -1,7 +1,5 @@
 -- None of the words before this one is written.
-use Prim.Native.Nat.{◌-◌, ◌≤◌}
 use native.Mathlib.Omega.{arith}
-use mathlib.Core.Bool.{false}
 use mathlib.Core.Path.{◌≡◌, sym, ap, ◌∙◌}
 use Rattle.target.specs.Chip.{chip_of}
 use Rattle.aim.specs.Wanted.{known, wanted, some, config_writes}

@@ -1,12 +1,9 @@
 -- None of the words before this one is written.
 use Prim.Native.Nat.{◌-◌, ◌≤◌}
-use native.Mathlib.Omega.{arith}
 use mathlib.Core.Bool.{false}
-use mathlib.Core.Path.{◌≡◌, sym, ap, ◌∙◌}
+use mathlib.Core.Path.{◌≡◌}
 use Rattle.target.specs.Chip.{chip_of}
 use Rattle.aim.specs.Wanted.{known, wanted, some, config_writes}
-use Rattle.aim.specs.LawsSome.{some_zero, some_more, some_here}
-use borrow.Author.Rules.{rules}
 use Rattle.plan.proofs.config.some_written.Given as goal
 
 abbrev pub invariant-loop-k : goal.invariant-loop-k

@@ -2,7 +2,6 @@
 use mathlib.Core.Path.{sym}
 use Rattle.plan.specs.LawsPlanSteps.{body_opens}
 use Rattle.plan.specs.LawsPlanCount.{counts_same, counts_then}
-use borrow.Author.Rules.{rules}
 use Rattle.plan.proofs.count.body_length.Goals as goal
 
 pub returns : goal.returns

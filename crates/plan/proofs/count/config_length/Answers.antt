@@ -1,7 +1,6 @@
 -- Nothing, or the parts summed.
 use mathlib.Core.Path.{sym, ◌∙◌}
 use Rattle.plan.specs.LawsPlanCount.{config_counted, no_config_counted}
-use borrow.Author.Rules.{rules}
 use Rattle.plan.proofs.count.config_length.Goals as goal
 
 pub returns-else-some_written : goal.returns-else-some_written

@@ -1,11 +1,10 @@
 -- The rows from here on are left to be counted.
-use Prim.Native.Nat.{◌-◌, ◌*◌, ◌/◌, ◌≤◌}
 use native.Mathlib.Omega.{arith}
 use mathlib.Core.Path.{sym, ◌∙◌}
 use Rattle.target.specs.LawsChip.{sound_chip}
-use Rattle.plan.specs.LawsPlanSteps.{plan_rows, rows_all, rows_no, rows_none, row_after, row_before, row_inside}
+use Rattle.plan.specs.LawsPlanSteps.{rows_all, rows_no, rows_none, row_after, row_before, row_inside}
 use Rattle.plan.specs.LawsPlanBounds.{some_row, few_rows, few_words, rows_few}
-use Rattle.plan.specs.LawsPlanCount.{Counting, rows_most, counting_all, counting_same, counting_none, erase_is, row_counted}
+use Rattle.plan.specs.LawsPlanCount.{counting_all, counting_same, counting_none, erase_is, row_counted}
 use borrow.Author.Rules.{rules}
 use Rattle.plan.proofs.count.rows_length.Goals as goal
 

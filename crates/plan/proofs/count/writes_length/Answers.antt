@@ -1,13 +1,9 @@
 -- The words from here on are left to be counted.
-use Prim.Native.Nat.{◌+◌, ◌-◌, ◌≤◌}
 use native.Mathlib.Omega.{arith}
 use mathlib.Core.Path.{sym, ◌∙◌}
-use Rattle.target.specs.Chip.{chip_of}
-use Rattle.aim.specs.Wanted.{known, wanted, config_writes}
-use Rattle.plan.specs.Steps.{writes_from}
 use Rattle.plan.specs.LawsPlanSteps.{writes_no, writes_none}
 use Rattle.plan.specs.LawsPlanBounds.{writes_few}
-use Rattle.plan.specs.LawsPlanCount.{Counting, writes_most, counting_all, counting_same, counting_none, word_counted}
+use Rattle.plan.specs.LawsPlanCount.{counting_all, counting_same, counting_none, word_counted}
 use borrow.Author.Rules.{rules}
 use Rattle.plan.proofs.count.writes_length.Goals as goal
 

@@ -2,7 +2,6 @@
 use native.Mathlib.Omega.{arith}
 use lib.ListN.{length-set}
 use Rattle.plan.specs.LawsPlanWrote.{wrote_one}
-use borrow.Author.Rules.{rules}
 use Rattle.plan.proofs.orders.put_order.Goals as goal
 
 pub bounds-out-at-2 : goal.bounds-out-at-2

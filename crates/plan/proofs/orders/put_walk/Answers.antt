@@ -1,11 +1,7 @@
 -- What is left to walk is left to be written.
-use Prim.Native.Nat.{◌-◌}
-use native.Mathlib.Omega.{arith}
-use mathlib.Core.Path.{◌≡◌, refl}
-use lib.ListN.{length}
-use Rattle.plan.specs.Steps.{walk}
+use mathlib.Core.Path.{refl}
 use Rattle.plan.specs.LawsPlanSteps.{walk_more, walk_none}
-use Rattle.plan.specs.LawsPlanWrote.{Left, left_all, left_same, left_then, left_none, room_part}
+use Rattle.plan.specs.LawsPlanWrote.{left_all, left_same, left_then, left_none, room_part}
 use borrow.Author.Rules.{rules}
 use Rattle.plan.proofs.orders.put_walk.Goals as goal
 
@@ -13,11 +9,11 @@ pub loop-at-init : goal.loop-at-init
 loop-at-init c = (refl, left_all _ _ _)
 
 pub put_order-done-requires : goal.put_order-done-requires
-put_order-done-requires c =  record {
-    fits_order = tt;
-    room = room_part _ _ _ _ _ _ _ (left_same _ _ _ _ _ _ _ (walk_more _ _ c.loop-at-test.true) c.loop-at.invariant.1)
+put_order-done-requires c = record {
+  fits_order = tt;
+  room = room_part _ _ _ _ _ _ _ (left_same _ _ _ _ _ _ _ (walk_more _ _ c.loop-at-test.true) c.loop-at.invariant.1)
       c.requires;
-  }
+}
 
 pub loop-at-preserved : goal.loop-at-preserved
 loop-at-preserved c = (

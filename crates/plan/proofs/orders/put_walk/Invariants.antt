@@ -1,12 +1,9 @@
 -- What is left to walk is left to be written.
 use Prim.Native.Nat.{◌-◌}
-use native.Mathlib.Omega.{arith}
-use mathlib.Core.Path.{◌≡◌, refl}
+use mathlib.Core.Path.{◌≡◌}
 use lib.ListN.{length}
 use Rattle.plan.specs.Steps.{walk}
-use Rattle.plan.specs.LawsPlanSteps.{walk_more, walk_none}
-use Rattle.plan.specs.LawsPlanWrote.{Left, left_all, left_same, left_then, left_none, room_part}
-use borrow.Author.Rules.{rules}
+use Rattle.plan.specs.LawsPlanWrote.{Left}
 use Rattle.plan.proofs.orders.put_walk.Given as goal
 
 abbrev pub invariant-loop-at : goal.invariant-loop-at

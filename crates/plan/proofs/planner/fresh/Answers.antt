@@ -20,11 +20,11 @@ returns-then-out-need c = plans_short _ _ _ _ _ c.fresh_refusal-number.ensures c
 
 pub put_fresh-steps-requires : goal.put_fresh-steps-requires
 put_fresh-steps-requires c = let s = accepted_fresh _ _ _ (sym c.fresh_refusal-number.ensures ∙ c.if-number-ne0.false) in
-     record {
-    rules = rules_lem _ s.device;
-    source = fresh_source _ _ s.image_sound;
-    room = room_whole _ _ _ c.fresh_length-need.ensures.is (omega arith) c.if-out-need.false;
-  }
+    record {
+      rules = rules_lem _ s.device;
+      source = fresh_source _ _ s.image_sound;
+      room = room_whole _ _ _ c.fresh_length-need.ensures.is (omega arith) c.if-out-need.false;
+    }
 
 pub returns : goal.returns
 returns c = plans_done _ _ _ _ _ _ _ c.fresh_refusal-number.ensures

@@ -19,11 +19,11 @@ pub returns-then-out-need : goal.returns-then-out-need
 returns-then-out-need c = plans_short _ _ _ _ _ c.update_refusal-number.ensures c.if-number-ne0.false c.update_length-need.ensures.is c.if-out-need.true
 
 pub put_update-steps-requires : goal.put_update-steps-requires
-put_update-steps-requires c = let s = accepted _ _ _ (sym c.update_refusal-number.ensures ∙ c.if-number-ne0.false) in  record {
-    rules = rules_lem _ s.device;
-    source = update_source _ _ _ s.image_sound s.reading_sound;
-    room = room_whole _ _ _ c.update_length-need.ensures.is (omega arith) c.if-out-need.false;
-  }
+put_update-steps-requires c = let s = accepted _ _ _ (sym c.update_refusal-number.ensures ∙ c.if-number-ne0.false) in record {
+  rules = rules_lem _ s.device;
+  source = update_source _ _ _ s.image_sound s.reading_sound;
+  room = room_whole _ _ _ c.update_length-need.ensures.is (omega arith) c.if-out-need.false;
+}
 
 pub returns : goal.returns
 returns c = plans_done _ _ _ _ _ _ _ c.update_refusal-number.ensures

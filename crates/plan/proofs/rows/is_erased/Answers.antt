@@ -1,6 +1,5 @@
 -- The row is asked only where it is to be.
 use Rattle.plan.specs.LawsPlanSteps.{erase_asked}
-use borrow.Author.Rules.{rules}
 use Rattle.plan.proofs.rows.is_erased.Goals as goal
 
 pub returns-then-erases : goal.returns-then-erases

@@ -1,13 +1,10 @@
 -- The words left to be loaded are left to be written.
 use Prim.Native.Nat.{◌+◌, ◌<◌}
-use native.Mathlib.Omega.{arith}
-use mathlib.Core.Path.{◌≡◌, refl}
+use mathlib.Core.Path.{◌≡◌}
 use lib.ListN.{length}
 use Rattle.aim.specs.Wanted.{wanted}
 use Rattle.plan.specs.Steps.{loads}
-use Rattle.plan.specs.LawsPlanSteps.{loads_more, loads_last}
-use Rattle.plan.specs.LawsPlanWrote.{Left, left_all, left_same, left_then, left_done, room_part, room_rest}
-use borrow.Author.Rules.{rules}
+use Rattle.plan.specs.LawsPlanWrote.{Left}
 use Rattle.plan.proofs.rows.put_loads.Given as goal
 
 abbrev pub invariant-loop-left : goal.invariant-loop-left

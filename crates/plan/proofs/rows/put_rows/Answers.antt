@@ -1,11 +1,9 @@
 -- The rows from here on are left to be written.
-use Prim.Native.Nat.{◌-◌, ◌/◌, ◌≤◌}
 use native.Mathlib.Omega.{arith}
-use mathlib.Core.Path.{◌≡◌, refl, sym, ◌∙◌}
-use lib.ListN.{length}
-use Rattle.plan.specs.LawsPlanSteps.{plan_rows, row_same, rows_all, rows_yes, rows_no, rows_none, row_before, row_inside}
+use mathlib.Core.Path.{refl, sym, ◌∙◌}
+use Rattle.plan.specs.LawsPlanSteps.{row_same, rows_all, rows_yes, rows_no, rows_none, row_before, row_inside}
 use Rattle.plan.specs.LawsPlanBounds.{some_row, few_rows, few_words}
-use Rattle.plan.specs.LawsPlanWrote.{Left, left_all, left_same, left_then, left_none, room_part, room_same, wrote_same}
+use Rattle.plan.specs.LawsPlanWrote.{left_all, left_same, left_then, left_none, room_part, room_same, wrote_same}
 use borrow.Author.Rules.{rules}
 use Rattle.plan.proofs.rows.put_rows.Goals as goal
 
@@ -25,12 +23,12 @@ pub overflow_mul-first : goal.overflow_mul-first
 overflow_mul-first c = let m = row_inside _ _ _ _ c.loop-k-test.true (few_words _ c.requires.rules) in omega arith
 
 pub put_row-done-requires : goal.put_row-done-requires
-put_row-done-requires c = let m = row_inside _ _ _ _ c.loop-k-test.true (few_words _ c.requires.rules) in  record {
-    source = c.requires.source;
-    row_nonzero = (some_row _ c.requires.rules, omega arith);
-    room = room_same _ _ _ _ (row_same _ _ _ _ _ _ (sym c.is_erased-erase.ensures))
-        (room_part _ _ _ _ _ _ _ (left_same _ _ _ _ _ _ _ (rows_yes _ _ _ _ _ _ _ c.loop-k-test.true (sym c.row_differs.ensures ∙ c.if-row_differs.true)) c.loop-k.invariant.2) c.requires.room);
-  }
+put_row-done-requires c = let m = row_inside _ _ _ _ c.loop-k-test.true (few_words _ c.requires.rules) in record {
+  source = c.requires.source;
+  row_nonzero = (some_row _ c.requires.rules, omega arith);
+  room = room_same _ _ _ _ (row_same _ _ _ _ _ _ (sym c.is_erased-erase.ensures))
+      (room_part _ _ _ _ _ _ _ (left_same _ _ _ _ _ _ _ (rows_yes _ _ _ _ _ _ _ c.loop-k-test.true (sym c.row_differs.ensures ∙ c.if-row_differs.true)) c.loop-k.invariant.2) c.requires.room);
+}
 
 pub overflow_sub-at : goal.overflow_sub-at
 overflow_sub-at c = some_row _ c.requires.rules

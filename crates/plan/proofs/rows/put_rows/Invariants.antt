@@ -1,12 +1,9 @@
 -- The rows from here on are left to be written.
 use Prim.Native.Nat.{◌-◌, ◌/◌, ◌≤◌}
-use native.Mathlib.Omega.{arith}
-use mathlib.Core.Path.{◌≡◌, refl, sym, ◌∙◌}
+use mathlib.Core.Path.{◌≡◌}
 use lib.ListN.{length}
-use Rattle.plan.specs.LawsPlanSteps.{plan_rows, row_same, rows_all, rows_yes, rows_no, rows_none, row_before, row_inside}
-use Rattle.plan.specs.LawsPlanBounds.{some_row, few_rows, few_words}
-use Rattle.plan.specs.LawsPlanWrote.{Left, left_all, left_same, left_then, left_none, room_part, room_same, wrote_same}
-use borrow.Author.Rules.{rules}
+use Rattle.plan.specs.LawsPlanSteps.{plan_rows}
+use Rattle.plan.specs.LawsPlanWrote.{Left}
 use Rattle.plan.proofs.rows.put_rows.Given as goal
 
 abbrev pub invariant-loop-k : goal.invariant-loop-k

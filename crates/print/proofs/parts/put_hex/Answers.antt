@@ -1,6 +1,5 @@
 -- The digits, and then the mark.
 use Rattle.print.specs.LawsPrint.{wrote_then, wrote_word}
-use borrow.Author.Rules.{rules}
 use Rattle.print.proofs.parts.put_hex.Goals as goal
 
 pub returns : goal.returns

@@ -1,7 +1,6 @@
 -- The digits, and then the mark.
 use native.Mathlib.Omega.{arith}
 use Rattle.print.specs.LawsPrint.{wrote_then, decimal_end}
-use borrow.Author.Rules.{rules}
 use Rattle.print.proofs.parts.put_number.Goals as goal
 
 pub put_one-requires : goal.put_one-requires

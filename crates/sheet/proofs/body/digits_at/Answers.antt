@@ -1,6 +1,5 @@
 -- In a program line or in the last one.
 use Rattle.sheet.specs.LawsRead.{digits_low, digits_high}
-use borrow.Author.Rules.{rules}
 use Rattle.sheet.proofs.body.digits_at.Goals as goal
 
 pub returns-then-i-program : goal.returns-then-i-program

@@ -2,7 +2,6 @@
 use mathlib.Core.Path.{sym, ap, ◌∙◌}
 use lib.Dec.{ltb}
 use Rattle.sheet.specs.LawsRead.{field_no_tab, field_word}
-use borrow.Author.Rules.{rules}
 use Rattle.sheet.proofs.body.field_ok.Goals as goal
 
 pub returns-else-byte_is : goal.returns-else-byte_is

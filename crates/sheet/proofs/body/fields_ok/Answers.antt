@@ -1,10 +1,7 @@
 -- Each field passed is sound.
-use Prim.Native.Nat.{◌-◌, ◌≤◌}
-use mathlib.Core.Path.{◌≡◌, sym, ◌∙◌}
-use mathlib.Core.Bool.{true}
+use mathlib.Core.Path.{sym, ◌∙◌}
 use native.Mathlib.Omega.{arith}
 use borrow.Author.Rules.{rules}
-use Rattle.sheet.specs.LawsPlaces.{fields_ok}
 use Rattle.sheet.specs.LawsRead.{fields_none, fields_more, fields_no, fields_end}
 use Rattle.sheet.proofs.body.fields_ok.Goals as goal
 

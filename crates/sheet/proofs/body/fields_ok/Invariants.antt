@@ -1,11 +1,8 @@
 -- Each field passed is sound.
 use Prim.Native.Nat.{◌-◌, ◌≤◌}
-use mathlib.Core.Path.{◌≡◌, sym, ◌∙◌}
+use mathlib.Core.Path.{◌≡◌}
 use mathlib.Core.Bool.{true}
-use native.Mathlib.Omega.{arith}
-use borrow.Author.Rules.{rules}
 use Rattle.sheet.specs.LawsPlaces.{fields_ok}
-use Rattle.sheet.specs.LawsRead.{fields_none, fields_more, fields_no, fields_end}
 use Rattle.sheet.proofs.body.fields_ok.Given as goal
 
 abbrev pub invariant-loop-k : goal.invariant-loop-k

@@ -1,7 +1,6 @@
 -- The address, the words, LF.
 use mathlib.Core.Path.{sym, ◌∙◌}
 use Rattle.sheet.specs.LawsRead.{line_no_address, line_no_fields, line_end}
-use borrow.Author.Rules.{rules}
 use Rattle.sheet.proofs.body.line_ok.Goals as goal
 
 pub returns-then-capital_word-address : goal.returns-then-capital_word-address

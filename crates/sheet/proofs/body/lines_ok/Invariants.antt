@@ -1,11 +1,8 @@
 -- Each line passed is sound.
 use Prim.Native.Nat.{◌-◌, ◌≤◌}
-use mathlib.Core.Path.{◌≡◌, sym, ◌∙◌}
+use mathlib.Core.Path.{◌≡◌}
 use mathlib.Core.Bool.{true}
-use native.Mathlib.Omega.{arith}
-use borrow.Author.Rules.{rules}
 use Rattle.sheet.specs.LawsPlaces.{lines_ok}
-use Rattle.sheet.specs.LawsRead.{lines_none, lines_more, lines_no, lines_end}
 use Rattle.sheet.proofs.body.lines_ok.Given as goal
 
 abbrev pub invariant-loop-k : goal.invariant-loop-k

@@ -1,7 +1,6 @@
 -- The tests in the order of the text.
 use mathlib.Core.Path.{sym, ◌∙◌}
 use Rattle.sheet.specs.LawsRead.{places_long, places_no_lines, places_last}
-use borrow.Author.Rules.{rules}
 use Rattle.sheet.proofs.body.places_ok.Goals as goal
 
 pub returns-then-text-lines : goal.returns-then-text-lines

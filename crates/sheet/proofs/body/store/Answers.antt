@@ -1,12 +1,9 @@
 -- Each word passed is stored, and the rest is as it was.
 use Rattle.numerals.specs.Hex.{capital_of, word_by}
-use Rattle.device.specs.Memory.{reading_tail}
-use Prim.Native.Nat.{◌+◌, ◌-◌, ◌≤◌}
-use mathlib.Core.Path.{◌≡◌, ap, ◌∙◌}
+use mathlib.Core.Path.{ap, ◌∙◌}
 use native.Mathlib.Omega.{arith}
 use borrow.Author.Rules.{rules}
-use lib.ListN.{length}
-use Rattle.sheet.specs.LawsRead.{stored, stored_none, stored_more, stored_end, stored_small}
+use Rattle.sheet.specs.LawsRead.{stored_none, stored_more, stored_end, stored_small}
 use Rattle.sheet.proofs.body.store.Goals as goal
 
 pub loop-i-init : goal.loop-i-init

@@ -1,6 +1,5 @@
 -- Past the end there is no byte but 0.
 use Rattle.sheet.specs.LawsRead.{byte_past}
-use borrow.Author.Rules.{rules}
 use Rattle.sheet.proofs.first.byte_is.Goals as goal
 
 pub returns : goal.returns

@@ -3,7 +3,6 @@ use mathlib.Core.Path.{sym, ◌∙◌}
 use native.Mathlib.Omega.{arith}
 use borrow.Author.Tests.{eqb-true}
 use Rattle.sheet.specs.LawsFirstLine.{head_no_id, head_old, head_neither}
-use borrow.Author.Rules.{rules}
 use Rattle.sheet.proofs.first.read_line.Goals as goal
 
 pub returns-then-id : goal.returns-then-id

@@ -1,7 +1,6 @@
 -- The name, then the sum.
 use native.Mathlib.Omega.{arith}
 use Rattle.sheet.specs.LawsRead.{fields_end_in, fields_body, fields_18, fields_19, fields_0}
-use borrow.Author.Rules.{rules}
 use Rattle.sheet.proofs.read.judge_fields.Goals as goal
 
 pub slice_bounds-same-end : goal.slice_bounds-same-end

@@ -3,7 +3,6 @@ use mathlib.Core.Path.{sym, ◌∙◌}
 use native.Mathlib.Omega.{arith}
 use Rattle.device.specs.LawsRecord.{rules_lem}
 use Rattle.sheet.specs.LawsRead.{text_no_line, text_no_fit, text_no_body, text_good, text_old, text_new}
-use borrow.Author.Rules.{rules}
 use Rattle.sheet.proofs.read.judge_text.Goals as goal
 
 pub returns-else-first : goal.returns-else-first

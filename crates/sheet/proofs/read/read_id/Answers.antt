@@ -1,6 +1,5 @@
 -- Line 1 is of a form or of none.
 use Rattle.sheet.specs.LawsRead.{id_read, id_refused}
-use borrow.Author.Rules.{rules}
 use Rattle.sheet.proofs.read.read_id.Goals as goal
 
 pub returns-then-first : goal.returns-then-first

@@ -3,7 +3,6 @@ use mathlib.Core.Path.{sym, ◌∙◌}
 use native.Mathlib.Omega.{arith}
 use Rattle.device.specs.LawsRecord.{ok_of_judged, bad_of_judged, rules_of_judged}
 use Rattle.sheet.specs.LawsRead.{read_no_record, read_no_name, read_no_room, read_refused, read_lines, read_all}
-use borrow.Author.Rules.{rules}
 use Rattle.sheet.proofs.read.read_sheet.Goals as goal
 
 pub returns-then-judge-ne0 : goal.returns-then-judge-ne0

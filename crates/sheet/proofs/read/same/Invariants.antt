@@ -1,10 +1,8 @@
 -- What is left to compare is all there was.
 use Prim.Native.Nat.{◌-◌, ◌≤◌}
-use mathlib.Core.Path.{◌≡◌, refl}
-use native.Mathlib.Omega.{arith}
+use mathlib.Core.Path.{◌≡◌}
 use lib.ListN.{length, drop}
 use Rattle.sheet.specs.FirstLine.{same_text}
-use Rattle.sheet.specs.LawsRead.{same_long, same_no, same_on, same_done}
 use Rattle.sheet.proofs.read.same.Given as goal
 
 abbrev pub invariant-loop-i : goal.invariant-loop-i

@@ -3,7 +3,6 @@ use mathlib.Core.Path.{sym}
 use Rattle.device.specs.LawsRecord.{rules_lem}
 use Rattle.sheet.specs.LawsBody.{body_sound}
 use Rattle.sheet.specs.LawsRead.{aside_room, aside_long, stored_within, stored_long, sum_of_stored}
-use borrow.Author.Rules.{rules}
 use Rattle.sheet.proofs.read.sum_in.Goals as goal
 
 pub slice_bounds-words-end : goal.slice_bounds-words-end

@@ -2,7 +2,6 @@
 use mathlib.Core.Path.{refl}
 use native.Mathlib.Omega.{arith}
 use Rattle.sheet.specs.Sheet.{body_length}
-use borrow.Author.Rules.{rules}
 use Rattle.sheetwrite.proofs.write.body_length.Goals as goal
 
 pub returns : goal.returns

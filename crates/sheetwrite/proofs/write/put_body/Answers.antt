@@ -2,7 +2,6 @@
 use native.Mathlib.Omega.{arith}
 use Rattle.sheet.specs.Sheet.{body_length}
 use Rattle.sheetwrite.specs.LawsWrite.{body_put}
-use borrow.Author.Rules.{rules}
 use Rattle.sheetwrite.proofs.write.put_body.Goals as goal
 
 pub put_lines-requires : goal.put_lines-requires

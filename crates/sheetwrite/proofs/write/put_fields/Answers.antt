@@ -1,12 +1,10 @@
 -- A tab and a word in each turn; what is left to write gets shorter.
 use Prim.Native.Nat.{◌<◌}
-use Prim.Native.Nat.{◌+◌, ◌-◌, ◌*◌, ◌≤◌}
-use mathlib.Core.Path.{◌≡◌, refl, sym, ◌∙◌}
+use Prim.Native.Nat.{◌+◌}
+use mathlib.Core.Path.{refl, sym, ◌∙◌}
 use native.Mathlib.Omega.{arith}
 use borrow.Author.Rules.{rules}
 use lib.ListN.{length}
-use lib.Seq.{sets}
-use Rattle.sheet.specs.Sheet.{fields}
 use Rattle.sheetwrite.specs.LawsWrite.{fields_all, fields_turn, fields_done}
 use Rattle.sheetwrite.proofs.write.put_fields.Goals as goal
 

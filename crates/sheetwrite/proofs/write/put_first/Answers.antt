@@ -1,6 +1,5 @@
 -- The ID, the name and the sum, one after the other.
 use Rattle.sheetwrite.specs.LawsWrite.{first_put}
-use borrow.Author.Rules.{rules}
 use Rattle.sheetwrite.proofs.write.put_first.Goals as goal
 
 pub returns : goal.returns

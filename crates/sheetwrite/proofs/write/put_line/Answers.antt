@@ -1,6 +1,5 @@
 -- The address, the words and LF, one after the other.
 use Rattle.sheetwrite.specs.LawsWrite.{line_put}
-use borrow.Author.Rules.{rules}
 use Rattle.sheetwrite.proofs.write.put_line.Goals as goal
 
 pub returns : goal.returns

@@ -1,11 +1,7 @@
 -- A line in each turn; what is left to write gets shorter.
-use Prim.Native.Nat.{◌+◌, ◌-◌, ◌*◌, ◌≤◌}
-use mathlib.Core.Path.{◌≡◌, refl, sym, ◌∙◌}
+use mathlib.Core.Path.{refl, sym, ◌∙◌}
 use native.Mathlib.Omega.{arith}
 use borrow.Author.Rules.{rules}
-use lib.ListN.{length}
-use lib.Seq.{sets}
-use Rattle.sheet.specs.Sheet.{program_lines}
 use Rattle.sheetwrite.specs.LawsWrite.{lines_all, lines_turn, lines_done}
 use Rattle.sheetwrite.proofs.write.put_lines.Goals as goal
 

@@ -1,12 +1,9 @@
 -- A line in each turn; what is left to write gets shorter.
 use Prim.Native.Nat.{◌+◌, ◌-◌, ◌*◌, ◌≤◌}
-use mathlib.Core.Path.{◌≡◌, refl, sym, ◌∙◌}
-use native.Mathlib.Omega.{arith}
-use borrow.Author.Rules.{rules}
+use mathlib.Core.Path.{◌≡◌}
 use lib.ListN.{length}
 use lib.Seq.{sets}
 use Rattle.sheet.specs.Sheet.{program_lines}
-use Rattle.sheetwrite.specs.LawsWrite.{lines_all, lines_turn, lines_done}
 use Rattle.sheetwrite.proofs.write.put_lines.Given as goal
 
 abbrev pub invariant-loop-k : goal.invariant-loop-k

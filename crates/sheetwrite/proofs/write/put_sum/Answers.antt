@@ -1,6 +1,5 @@
 -- A tab, the digits, LF.
 use Rattle.sheetwrite.specs.LawsWrite.{sum_put}
-use borrow.Author.Rules.{rules}
 use Rattle.sheetwrite.proofs.write.put_sum.Goals as goal
 
 pub returns : goal.returns

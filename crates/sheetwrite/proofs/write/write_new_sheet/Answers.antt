@@ -7,7 +7,6 @@ use Rattle.device.specs.LawsMemory.{reading_long}
 use Rattle.device.specs.LawsRecord.{ok_of_judged, bad_of_judged, rules_of_judged}
 use Rattle.sheetwrite.specs.Write.{new_length}
 use Rattle.sheetwrite.specs.LawsWrite.{new_no_record, new_no_name, new_no_reading, new_reading, new_short, new_all}
-use borrow.Author.Rules.{rules}
 use Rattle.sheetwrite.proofs.write.write_new_sheet.Goals as goal
 
 pub returns-then-judge-ne0 : goal.returns-then-judge-ne0

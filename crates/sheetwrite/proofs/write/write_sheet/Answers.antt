@@ -6,7 +6,6 @@ use Rattle.device.specs.LawsMemory.{reading_long}
 use Rattle.device.specs.LawsRecord.{ok_of_judged, bad_of_judged, rules_of_judged}
 use Rattle.sheetwrite.specs.Write.{sheet_length}
 use Rattle.sheetwrite.specs.LawsWrite.{refused_record, refused_reading, refused_short, all_written, sheet_put}
-use borrow.Author.Rules.{rules}
 use Rattle.sheetwrite.proofs.write.write_sheet.Goals as goal
 
 pub returns-then-judge-ne0 : goal.returns-then-judge-ne0

@@ -1,6 +1,5 @@
 -- Tab after tab, and at most one after the fifth.
 use Rattle.table.specs.LawsLine.{few, none_1, none_2, none_3, none_4, none_5, many, all_tabs}
-use borrow.Author.Rules.{rules}
 use Rattle.table.proofs.line.cut.Goals as goal
 
 pub returns-then-n-a : goal.returns-then-n-a

@@ -4,7 +4,6 @@ use native.Mathlib.Omega.{arith}
 use Rattle.device.specs.LawsRecord.{ok_of_judged, bad_of_judged, keeps}
 use Rattle.table.specs.LawsLine.{not_made, made_of, no_row}
 use Rattle.words.specs.LawsChoice.{true_not_false}
-use borrow.Author.Rules.{rules}
 use Rattle.table.proofs.line.device_of.Goals as goal
 
 pub returns-then-id-ge16384 : goal.returns-then-id-ge16384

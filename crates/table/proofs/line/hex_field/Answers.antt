@@ -1,7 +1,6 @@
 -- Four digits, or none.
 use mathlib.Core.Path.{sym, ◌∙◌}
 use Rattle.table.specs.LawsLine.{hex_four, hex_other}
-use borrow.Author.Rules.{rules}
 use Rattle.table.proofs.line.hex_field.Goals as goal
 
 pub returns-then-f-eq4 : goal.returns-then-f-eq4

@@ -1,11 +1,8 @@
 -- What is left of the name is printable or it is not.
 use Prim.Native.Nat.{◌≤◌, ◌-◌}
-use mathlib.Core.Path.{◌≡◌, sym, ◌∙◌}
-use native.Mathlib.Omega.{arith}
+use mathlib.Core.Path.{◌≡◌}
 use lib.ListN.{length, drop}
-use borrow.Author.Rules.{rules}
 use Rattle.table.specs.Table.{name_ok, all_printable}
-use Rattle.table.specs.LawsLine.{name_empty, name_long, name_of, printable_on, printable_low, printable_high, printable_end}
 use Rattle.table.proofs.line.is_name.Given as goal
 
 abbrev pub invariant-loop-i : goal.invariant-loop-i

@@ -1,6 +1,5 @@
 -- Both IDs under both masks.
 use Rattle.table.specs.LawsLine.{line_clash_by}
-use borrow.Author.Rules.{rules}
 use Rattle.table.proofs.line.line_clashes.Goals as goal
 
 pub returns : goal.returns

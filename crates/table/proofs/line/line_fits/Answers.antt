@@ -2,7 +2,6 @@
 use mathlib.Core.Path.{sym}
 use Rattle.device.specs.LawsId.{fits_high}
 use Rattle.table.specs.LawsLine.{line_fits_by}
-use borrow.Author.Rules.{rules}
 use Rattle.table.proofs.line.line_fits.Goals as goal
 
 pub returns-then-w-ge-WORD_LIMIT : goal.returns-then-w-ge-WORD_LIMIT

@@ -1,7 +1,6 @@
 -- The second field, if there is one.
 use mathlib.Core.Path.{sym, ◌∙◌}
 use Rattle.table.specs.LawsLine.{id_none, id_field}
-use borrow.Author.Rules.{rules}
 use Rattle.table.proofs.line.line_id.Goals as goal
 
 pub returns-then-line-a : goal.returns-then-line-a

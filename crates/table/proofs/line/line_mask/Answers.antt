@@ -1,7 +1,6 @@
 -- The last of seven fields, or every bit.
 use mathlib.Core.Path.{sym, ◌∙◌}
 use Rattle.table.specs.LawsLine.{mask_there, mask_few}
-use borrow.Author.Rules.{rules}
 use Rattle.table.proofs.line.line_mask.Goals as goal
 
 pub mask_after-requires : goal.mask_after-requires

@@ -1,7 +1,6 @@
 -- Every bit, or the field that follows.
 use mathlib.Core.Path.{◌∙◌}
 use Rattle.table.specs.LawsLine.{mask_none, mask_one}
-use borrow.Author.Rules.{rules}
 use Rattle.table.proofs.line.mask_after.Goals as goal
 
 pub returns-then-line-end : goal.returns-then-line-end

@@ -1,6 +1,5 @@
 -- Nothing follows, or no tab does.
 use Rattle.table.specs.LawsLine.{after_none, after_one}
-use borrow.Author.Rules.{rules}
 use Rattle.table.proofs.line.one_more.Goals as goal
 
 pub returns-then-n-end : goal.returns-then-n-end

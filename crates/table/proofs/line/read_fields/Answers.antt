@@ -1,6 +1,5 @@
 -- The fields cut out and read, and the device of their numbers.
 use Rattle.table.specs.LawsLine.{name_length, fields_no_name, fields_read}
-use borrow.Author.Rules.{rules}
 use Rattle.table.proofs.line.read_fields.Goals as goal
 
 pub slice_bounds-is_name-end : goal.slice_bounds-is_name-end

@@ -1,7 +1,6 @@
 -- Five tabs, or no line.
 use mathlib.Core.Path.{sym, ◌∙◌}
 use Rattle.table.specs.LawsLine.{line_few, line_refused}
-use borrow.Author.Rules.{rules}
 use Rattle.table.proofs.line.read_line.Goals as goal
 
 pub read_fields-requires : goal.read_fields-requires

@@ -1,11 +1,8 @@
 -- The lines ahead clash if any of the lines does.
 use Prim.Native.Nat.{◌≤◌, ◌-◌}
-use mathlib.Core.Path.{◌≡◌, refl}
-use native.Mathlib.Omega.{arith}
+use mathlib.Core.Path.{◌≡◌}
 use lib.ListN.{length, drop}
 use Rattle.table.specs.Table.{table_lines, clashes}
-use Rattle.table.specs.LawsTable.{clash_no_end, clash_here, clash_on, clash_none}
-use borrow.Author.Rules.{rules}
 use Rattle.table.proofs.table.clash_after.Given as goal
 
 abbrev pub invariant-loop-at : goal.invariant-loop-at

@@ -1,7 +1,6 @@
 -- A sound table, and a line in it that gives the ID.
 use mathlib.Core.Path.{sym, ◌∙◌}
 use Rattle.table.specs.LawsTable.{found_bad, found_none, found_here, good_of_number, bad_of_number}
-use borrow.Author.Rules.{rules}
 use Rattle.table.proofs.table.find_device.Goals as goal
 
 pub returns-then-judge_table-ne0 : goal.returns-then-judge_table-ne0

@@ -1,11 +1,8 @@
 -- The table's test, line by line.
-use Prim.Native.Nat.{◌≤◌, ◌-◌}
-use mathlib.Core.Path.{◌≡◌, ◌∙◌}
+use mathlib.Core.Path.{◌∙◌}
 use native.Mathlib.Omega.{arith}
-use lib.ListN.{length, drop}
 use borrow.Author.Rules.{rules}
-use Rattle.table.specs.Table.{table_ok}
-use Rattle.table.specs.LawsTable.{left_ok, left_all, left_no_end, left_many, left_none, left_some, turn_bad, turn_clash, turn_on, table_bad, table_good}
+use Rattle.table.specs.LawsTable.{left_all, left_no_end, left_many, left_none, left_some, turn_bad, turn_clash, turn_on, table_bad, table_good}
 use Rattle.table.proofs.table.judge_table.Goals as goal
 
 pub loop-at-init : goal.loop-at-init

@@ -1,6 +1,5 @@
 -- A refusal names nothing else.
 use Rattle.table.specs.Table.{refused}
-use borrow.Author.Rules.{rules}
 use Rattle.table.proofs.table.refusal.Goals as goal
 
 pub returns : goal.returns

@@ -1,9 +1,7 @@
 -- The lines ahead still hold what is looked for.
 use Prim.Native.Nat.{◌≤◌, ◌-◌}
-use native.Mathlib.Omega.{arith}
 use lib.ListN.{length}
-use borrow.Author.Rules.{rules}
-use Rattle.table.specs.LawsTable.{Ahead, ahead_all, ahead_on, sought_here, sought_none, sought_no_end}
+use Rattle.table.specs.LawsTable.{Ahead}
 use Rattle.table.proofs.table.seek.Given as goal
 
 abbrev pub invariant-loop-at : goal.invariant-loop-at

@@ -1,5 +1,4 @@
 -- Itself AND the latch, under the cell's own mask.
-use borrow.Author.Rules.{rules}
 use Rattle.target.proofs.cells.burn.Goals as goal
 
 pub returns : goal.returns

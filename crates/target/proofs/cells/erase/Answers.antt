@@ -1,8 +1,7 @@
 -- A range that is erased from its first word on.
-use Prim.Native.Nat.{◌≤◌, ◌-◌, ◌+◌}
 use mathlib.Core.Path.{◌≡◌, refl, sym, ap, ◌∙◌}
 use native.Mathlib.Omega.{arith}
-use lib.ListN.{length, length-set}
+use lib.ListN.{length-set}
 use borrow.Author.Rules.{rules}
 use Rattle.words.specs.Word.{erased}
 use Rattle.words.specs.Lists.{overlay}

@@ -1,12 +1,9 @@
 -- A range that is erased from its first word on.
 use Prim.Native.Nat.{◌≤◌, ◌-◌, ◌+◌}
-use mathlib.Core.Path.{◌≡◌, refl, sym, ap, ◌∙◌}
-use native.Mathlib.Omega.{arith}
-use lib.ListN.{length, length-set}
-use borrow.Author.Rules.{rules}
+use mathlib.Core.Path.{◌≡◌}
+use lib.ListN.{length}
 use Rattle.words.specs.Word.{erased}
 use Rattle.words.specs.Lists.{overlay}
-use Rattle.words.specs.LawsLists.{overlay_none, overlay_more}
 use Rattle.target.proofs.cells.erase.Given as goal
 
 abbrev pub invariant-loop-i : goal.invariant-loop-i

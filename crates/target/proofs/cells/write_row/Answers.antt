@@ -1,9 +1,9 @@
 -- A row that is written from its first word on.
-use Prim.Native.Nat.{◌≤◌, ◌-◌, ◌+◌, ◌*◌, ◌%◌}
+use Prim.Native.Nat.{◌*◌, ◌%◌}
 use mathlib.Core.Path.{◌≡◌, refl, sym, ap, ◌∙◌}
 use native.Mathlib.Omega.{arith}
 use lib.Bits.{bit_and}
-use lib.ListN.{length, get_or, length-set}
+use lib.ListN.{get_or, length-set}
 use borrow.Author.Rules.{rules}
 use Rattle.words.specs.Lists.{overlay}
 use Rattle.words.specs.LawsLists.{overlay_none}

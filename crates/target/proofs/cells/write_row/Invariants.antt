@@ -1,13 +1,9 @@
 -- A row that is written from its first word on.
 use Prim.Native.Nat.{◌≤◌, ◌-◌, ◌+◌, ◌*◌, ◌%◌}
-use mathlib.Core.Path.{◌≡◌, refl, sym, ap, ◌∙◌}
-use native.Mathlib.Omega.{arith}
+use mathlib.Core.Path.{◌≡◌}
 use lib.Bits.{bit_and}
-use lib.ListN.{length, get_or, length-set}
-use borrow.Author.Rules.{rules}
+use lib.ListN.{length, get_or}
 use Rattle.words.specs.Lists.{overlay}
-use Rattle.words.specs.LawsLists.{overlay_none}
-use Rattle.target.specs.LawsCells.{write_turn}
 use Rattle.target.proofs.cells.write_row.Given as goal
 
 abbrev pub invariant-loop-i : goal.invariant-loop-i

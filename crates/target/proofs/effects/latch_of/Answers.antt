@@ -1,8 +1,6 @@
 -- The counter's low bits are its remainder.
 use native.Mathlib.Omega.{arith}
 use Rattle.target.specs.LawsCells.{some_row, latch_bits}
-use Rattle.target.proofs.effects.latch_of.Reads as reads
-use Rattle.target.proofs.effects.latch_of.Lts as lts
 use Rattle.target.proofs.effects.latch_of.Goals as goal
 
 pub overflow_sub-result : goal.overflow_sub-result

@@ -1,10 +1,6 @@
 -- The counter mod R is a latch.
 use mathlib.Core.Path.{ap}
 use lib.ListN.{set}
-use borrow.Author.Rules.{rules}
-use Rattle.target.proofs.effects.load_latch.Reads as reads
-use Rattle.target.proofs.effects.load_latch.Lts as lts
-use Rattle.target.proofs.effects.latch_of.Reads as latch_of_reads
 use Rattle.target.proofs.effects.load_latch.Goals as goal
 
 pub returns : goal.returns

@@ -1,6 +1,5 @@
 -- 33, or the erase.
 use Rattle.target.specs.LawsOrders.{erase_all_refused, erase_all_done}
-use borrow.Author.Rules.{rules}
 use Rattle.target.proofs.single.bulk_erase.Goals as goal
 
 pub returns-then-at-ge-ERASE_END : goal.returns-then-at-ge-ERASE_END

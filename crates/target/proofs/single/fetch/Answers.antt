@@ -1,7 +1,6 @@
 -- No room and 35, or the word at the counter.
 use native.Mathlib.Omega.{arith}
 use Rattle.target.specs.LawsOrders.{fetch_refused, fetch_taken}
-use borrow.Author.Rules.{rules}
 use Rattle.target.proofs.single.fetch.Goals as goal
 
 pub returns-then-read-words : goal.returns-then-read-words

@@ -1,12 +1,6 @@
 -- Each latch passed is a word.
 use Prim.Native.Nat.{ℕ, ◌≤◌, ◌<◌, ◌-◌}
-use mathlib.Core.Path.{sym}
-use native.Mathlib.Omega.{arith}
-use borrow.Author.Rules.{rules}
-use borrow.Author.Count.{below_none, below_more}
 use lib.ListN.{get_or}
-use Rattle.device.specs.LawsRecord.{row}
-use Rattle.target.specs.LawsStep.{latches_ok, latch_high}
 use Rattle.target.proofs.single.latches_ok.Given as goal
 
 abbrev pub invariant-loop-i : goal.invariant-loop-i

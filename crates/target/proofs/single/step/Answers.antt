@@ -5,7 +5,6 @@ use Rattle.words.specs.LawsWord.{words_long}
 use Rattle.device.specs.LawsRecord.{ok_of_judged, rules_of_judged, bad_of_judged}
 use Rattle.target.specs.LawsStep.{steps_13, steps_32_cells, steps_32_latches, steps_on}
 use Rattle.target.specs.Step.{sound_cells}
-use borrow.Author.Rules.{rules}
 use Rattle.target.proofs.single.step.Goals as goal
 
 pub returns-then-judge-ne0 : goal.returns-then-judge-ne0
@@ -28,15 +27,15 @@ returns-else-latches_ok c = steps_32_latches _ _ _ _ _ _ (ok_of_judged _
 
 pub perform-o-requires : goal.perform-o-requires
 perform-o-requires c = record {
-    rules = rules_of_judged _ (sym c.judge.ensures
+  rules = rules_of_judged _ (sym c.judge.ensures
       ∙ c.if-judge-ne0.false);
-    cells_len = (
+  cells_len = (
     words_long _ _
         (sym c.is_words.ensures
         ∙ c.if-is_words.true),
     omega arith,
   );
-  }
+}
 
 pub returns : goal.returns
 unfolding sound_cells

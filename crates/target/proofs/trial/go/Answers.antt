@@ -1,13 +1,8 @@
 -- After each step the run stands where the definition says.
-use Prim.Native.Nat.{◌≤◌, ◌-◌}
-use mathlib.Core.Path.{◌≡◌, refl, ◌∙◌}
+use mathlib.Core.Path.{refl, ◌∙◌}
 use native.Mathlib.Omega.{arith}
-use lib.ListN.{length}
 use borrow.Author.Rules.{rules}
-use Rattle.target.specs.Chip.{chip_of}
-use Rattle.target.specs.Run.{run_refusal}
-use Rattle.target.specs.LawsStep.{held}
-use Rattle.target.specs.LawsRun.{Going, going_none, going_more, going_stops, going_ends, reads_within}
+use Rattle.target.specs.LawsRun.{going_none, going_more, going_stops, going_ends, reads_within}
 use Rattle.target.proofs.trial.go.Goals as goal
 
 pub loop-done-init : goal.loop-done-init
@@ -15,9 +10,9 @@ loop-done-init c = (search rules, search rules, refl, refl, going_none _ _ _ _ _
 
 pub next_step-o-requires : goal.next_step-o-requires
 next_step-o-requires c = record {
-    rules = c.requires.rules;
-    cells_len = (omega arith, omega arith, omega arith);
-  }
+  rules = c.requires.rules;
+  cells_len = (omega arith, omega arith, omega arith);
+}
 
 pub returns-then-number-ne0 : goal.returns-then-number-ne0
 returns-then-number-ne0 c = going_stops _ _ _ _ _ _ _ _ _ _ c.loop-done.invariant.4 _ _ _ _ _

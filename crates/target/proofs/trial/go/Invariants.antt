@@ -1,13 +1,11 @@
 -- After each step the run stands where the definition says.
 use Prim.Native.Nat.{◌≤◌, ◌-◌}
-use mathlib.Core.Path.{◌≡◌, refl, ◌∙◌}
-use native.Mathlib.Omega.{arith}
+use mathlib.Core.Path.{◌≡◌}
 use lib.ListN.{length}
-use borrow.Author.Rules.{rules}
 use Rattle.target.specs.Chip.{chip_of}
 use Rattle.target.specs.Run.{run_refusal}
 use Rattle.target.specs.LawsStep.{held}
-use Rattle.target.specs.LawsRun.{Going, going_none, going_more, going_stops, going_ends, reads_within}
+use Rattle.target.specs.LawsRun.{Going}
 use Rattle.target.proofs.trial.go.Given as goal
 
 abbrev pub invariant-loop-done : goal.invariant-loop-done

@@ -1,6 +1,5 @@
 -- The step's code and payload are those of the stream.
 use Rattle.target.specs.LawsRun.{step_is}
-use borrow.Author.Rules.{rules}
 use Rattle.target.proofs.trial.next_step.Goals as goal
 
 pub returns : goal.returns

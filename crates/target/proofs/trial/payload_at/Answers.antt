@@ -1,7 +1,6 @@
 -- Two bytes make a payload.
 use native.Mathlib.Omega.{arith}
 use Prim.Native.Nat.{◌+◌}
-use borrow.Author.Rules.{rules}
 use Rattle.target.proofs.trial.payload_at.Goals as goal
 
 pub overflow_mul-result : goal.overflow_mul-result

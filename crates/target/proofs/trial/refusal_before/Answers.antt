@@ -3,7 +3,6 @@ use mathlib.Core.Path.{sym, ◌∙◌}
 use Rattle.device.specs.LawsRecord.{ok_of_judged, bad_of_judged}
 use Rattle.target.specs.Step.{sound_cells}
 use Rattle.target.specs.LawsRun.{before_13, before_32, before_34, before_none}
-use borrow.Author.Rules.{rules}
 use Rattle.target.proofs.trial.refusal_before.Goals as goal
 
 pub returns-then-judge-ne0 : goal.returns-then-judge-ne0

@@ -3,7 +3,6 @@ use Rattle.target.specs.LawsRun.{cells_long}
 use mathlib.Core.Path.{sym, ◌∙◌}
 use Rattle.device.specs.LawsRecord.{rules_lem}
 use Rattle.target.specs.LawsRun.{run_refused, run_goes, before_sound, enough}
-use borrow.Author.Rules.{rules}
 use Rattle.target.proofs.trial.run.Goals as goal
 
 pub returns-then-number-ne0 : goal.returns-then-number-ne0

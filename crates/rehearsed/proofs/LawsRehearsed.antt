@@ -34,7 +34,7 @@ use Rattle.listings.specs.Wanteds.{left_text, wanted_text, wanted_fresh_text}
 use Rattle.listings.specs.LawsPlans.{update_few, fresh_few}
 use Rattle.trials.specs.Trial.{most_steps, bad_line, stream_of, cells_of, played, played_text, trial_text}
 use Rattle.rehearsed.specs.Rehearsed.{is_refusal, Leaves}
-use Rattle.rehearsed.specs.LawsTold.{stream_told, sheet_told, judged, Unrefused, judged_text, unrefused, judged_alike}
+use Rattle.rehearsed.proofs.LawsTold.{stream_told, sheet_told, judged, Unrefused, judged_text, unrefused, judged_alike}
 use Rattle.rehearsed.specs.LawsPrinted.{printed_sound, printed_read}
 use Rattle.rehearsed.specs.LawsFront.{front_word, programmed_sound, programmed_front, reading_sound, first_sound, first_front}
 

@@ -39,11 +39,11 @@ use Rattle.trials.specs.Trial.{most_steps, stream_of, cells_of}
 use Rattle.trials.specs.LawsTyped.{front_is}
 use Rattle.gathers.specs.Gather.{answer_text, gather_text}
 use Rattle.rehearsed.specs.Rehearsed.{is_refusal, Leaves, cells_left, answers_of, words_text}
-use Rattle.rehearsed.specs.LawsTold.{not_refused, text_is, stream_told}
+use Rattle.rehearsed.proofs.LawsTold.{not_refused, text_is, stream_told}
 use Rattle.rehearsed.specs.LawsPrinted.{printed_read}
 use Rattle.rehearsed.specs.LawsFront.{front_long, front_word, front_reading, first_sound, first_front}
-use Rattle.rehearsed.specs.LawsRehearsed.{update_board, update_leaves}
-use Rattle.rehearsed.specs.LawsAnswers.{answers_gathered}
+use Rattle.rehearsed.proofs.LawsRehearsed.{update_board, update_leaves}
+use Rattle.rehearsed.proofs.LawsAnswers.{answers_gathered}
 
 -- ---- what is read of a board that is not protected
 

@@ -9,7 +9,7 @@ use Rattle.sheet.specs.Sheet.{sheet_with}
 use Rattle.board.specs.Open.{record_of, open_number}
 use Rattle.gathers.specs.LawsAnswers.{answers_read}
 use Rattle.gathers.specs.Gather.{answer_text, gather_number, gather_text}
-use Rattle.rehearsed.specs.LawsTold.{text_is}
+use Rattle.rehearsed.proofs.LawsTold.{text_is}
 
 module _ (table sheet : List ℕ) (z : open_number table sheet ≡ 0) (l : List ℕ) (ok : reading_ok (record_of table sheet).words l ≡ true) where
   gathers_all : gather_number table sheet (answer_text l) ≡ 0

@@ -1,0 +1,2 @@
+-- The theorem that is quoted of fewest erases, over the laws of specs/.
+pub mod LawsFewest

@@ -1,0 +1,2 @@
+-- The worked cases, as one statement over the list of them.
+pub mod LawsWorked
