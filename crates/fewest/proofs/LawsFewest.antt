@@ -12,11 +12,8 @@ use Rattle.device.specs.LawsMemory.{programmable_low, reading_long}
 use Rattle.target.specs.Chip.{chip_of}
 use Rattle.target.specs.Model.{Run}
 use Rattle.target.specs.Step.{Target, sound_cells}
-use Rattle.target.specs.Stream.{bytes_of}
-use Rattle.target.specs.Run.{ran, model_of, run_refusal}
+use Rattle.target.specs.Run.{ran, run_refusal}
 use Rattle.target.specs.LawsChip.{SoundChip, sound_chip}
-use Rattle.target.specs.LawsStream.{FitsAll}
-use Rattle.target.specs.declared.Order.{Order}
 use Rattle.aim.specs.Wanted.{known, wanted}
 use Rattle.aim.specs.Refusal.{update_number}
 use Rattle.plan.specs.Steps.{update_steps}
@@ -29,7 +26,6 @@ use Rattle.fewest.specs.LawsLack.{lacking, lacking_still}
 use Rattle.fewest.specs.LawsFalls.{holding}
 use Rattle.fewest.specs.LawsPays.{chip_fewest}
 use Rattle.fewest.specs.LawsErasesCounted.{erases_counted}
-use Rattle.fewest.specs.LawsBytesCounted.{steps_few, run_within}
 
 -- what an update leaves has its wanted words
 programmed_word : (d : Device) (image reading first : List ℕ) (i : ℕ) → i < length first → i < d.words + ids → get_or (programmed d image reading first) i 0 ≡ wanted d image reading i
@@ -82,20 +78,3 @@ pub fewest_erases : (d : Device) (image reading first : List ℕ)
     → steps_of is_bulk_erase stream (ran d stream allowance first words).done ≡ 0
     → orders_of is_row_erase (update_steps d image reading) ≤ steps_of is_row_erase stream (ran d stream allowance first words).done
 fewest_erases d image reading first e s held stream allowance words left bulk = read_fewest d image reading first e s held stream allowance words left bulk
-
--- the same of a list of orders
-pub fewest_orders : (d : Device) (image reading first : List ℕ)
-    → update_number d image reading ≡ 0
-    → sound_cells (chip_of d) first ≡ true
-    → ((i : ℕ) → i < d.words + reading_tail → get_or first i 0 ≡ get_or reading i 0)
-    → (s : List Order)
-    → FitsAll s
-    → (allowance : ℕ) (words : List ℕ)
-    → (ran d (bytes_of s) allowance first words).target.cells ≡ programmed d image reading first
-    → orders_of is_bulk_erase s ≡ 0
-    → orders_of is_row_erase (update_steps d image reading) ≤ orders_of is_row_erase s
-fewest_orders d image reading first e sound held s fits allowance words left bulk =
-    let within : (ran d (bytes_of s) allowance first words).done ≤ length s = (unfold ran in run_within (model_of d) s allowance first words) in
-    let none : steps_of is_bulk_erase (bytes_of s) (ran d (bytes_of s) allowance first words).done ≤ orders_of is_bulk_erase s = steps_few is_bulk_erase s fits _ within in
-    let few : steps_of is_row_erase (bytes_of s) (ran d (bytes_of s) allowance first words).done ≤ orders_of is_row_erase s = steps_few is_row_erase s fits _ within in
-    le_trans (fewest_erases d image reading first e sound held (bytes_of s) allowance words left (omega arith)) few

@@ -1,3 +1,2 @@
 // No stream without Bulk Erase that leaves what an update leaves has fewer Row Erases.
 #![tactic(auto)]
-

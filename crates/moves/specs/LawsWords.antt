@@ -1,5 +1,5 @@
 -- Laws of the words that a move reads, and of what it writes of them.
-use Rattle.std.specs.Prelude.{ℕ, ◌+◌, ◌-◌, ◌≤◌, ◌≡◌, refl, Bool, true, false, ◌&&◌, List, ◌++◌, leb, eqb, take, replicate}
+use Rattle.std.specs.Prelude.{ℕ, ◌+◌, ◌≤◌, ◌≡◌, refl, Bool, true, false, ◌&&◌, List, ◌++◌, leb, eqb, take, replicate}
 use Rattle.std.proofs.Common.{zero-add, arith, ◌∙◌, take-append-drop, length-take-le, take_at, eq-eqb, ne_eqb}
 use Rattle.std.proofs.Math.Path.{sym, ap}
 use Rattle.std.proofs.Math.ListN.{length, drop}

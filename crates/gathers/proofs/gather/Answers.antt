@@ -5,7 +5,6 @@ use Rattle.print.specs.LawsPrint.{prints_as, printed}
 use Rattle.sheet.specs.LawsFirstLine.{first_small}
 use Rattle.board.specs.LawsOpen.{opened_serves, opened_most}
 use Rattle.gathers.specs.LawsGather.{gather_refused, gather_21, gather_found, gather_short}
-use borrow.Author.Rules.{rules}
 use Rattle.gathers.proofs.gather.Goals as goal
 
 pub returns-then-opened-ne0 : goal.returns-then-opened-ne0

@@ -10,7 +10,6 @@ use Rattle.sheetwrite.specs.LawsWrite.{written_short}
 use Rattle.print.specs.LawsPrint.{prints_as}
 use Rattle.gathers.specs.LawsAnswers.{answers_sound}
 use Rattle.gathers.specs.LawsStored.{front_room, front_part, sheet_front}
-use borrow.Author.Rules.{rules}
 use Rattle.gathers.proofs.put_sheet.Goals as goal
 
 pub slice_bounds-words-end : goal.slice_bounds-words-end

@@ -1,9 +1,7 @@
 -- Each line passed is sound.
-use Prim.Native.Nat.{◌-◌, ◌≤◌}
-use mathlib.Core.Path.{◌≡◌, sym, ◌∙◌}
-use mathlib.Core.Bool.{true}
+use mathlib.Core.Path.{sym, ◌∙◌}
 use native.Mathlib.Omega.{arith}
-use Rattle.gathers.specs.LawsAnswers.{answers_to, lines_none, lines_more, lines_no, lines_end}
+use Rattle.gathers.specs.LawsAnswers.{lines_none, lines_more, lines_no, lines_end}
 use borrow.Author.Rules.{rules}
 use Rattle.gathers.proofs.answers.each_ok.Goals as goal
 

@@ -1,10 +1,8 @@
 -- Each line passed is sound.
 use Prim.Native.Nat.{◌-◌, ◌≤◌}
-use mathlib.Core.Path.{◌≡◌, sym, ◌∙◌}
+use mathlib.Core.Path.{◌≡◌}
 use mathlib.Core.Bool.{true}
-use native.Mathlib.Omega.{arith}
-use Rattle.gathers.specs.LawsAnswers.{answers_to, lines_none, lines_more, lines_no, lines_end}
-use borrow.Author.Rules.{rules}
+use Rattle.gathers.specs.LawsAnswers.{answers_to}
 use Rattle.gathers.proofs.answers.each_ok.Given as goal
 
 abbrev pub invariant-loop-k : goal.invariant-loop-k

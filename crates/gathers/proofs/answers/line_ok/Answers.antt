@@ -1,7 +1,6 @@
 -- The word, then LF.
 use native.Mathlib.Omega.{arith}
 use Rattle.gathers.specs.LawsAnswers.{line_no_word, line_end}
-use borrow.Author.Rules.{rules}
 use Rattle.gathers.proofs.answers.line_ok.Goals as goal
 
 pub returns-then-word : goal.returns-then-word

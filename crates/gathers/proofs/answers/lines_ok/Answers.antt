@@ -1,7 +1,6 @@
 -- The length, then the lines.
 use mathlib.Core.Path.{◌∙◌}
 use Rattle.gathers.specs.LawsAnswers.{answers_long, answers_lines}
-use borrow.Author.Rules.{rules}
 use Rattle.gathers.proofs.answers.lines_ok.Goals as goal
 
 pub returns-then-text-count : goal.returns-then-text-count

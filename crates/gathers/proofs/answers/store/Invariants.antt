@@ -1,11 +1,9 @@
 -- Each word passed is stored, and the rest is as it was.
 use Prim.Native.Nat.{◌+◌, ◌-◌, ◌≤◌}
 use mathlib.Core.Path.{◌≡◌}
-use native.Mathlib.Omega.{arith}
 use lib.ListN.{length}
 use Rattle.device.specs.Memory.{reading_tail}
-use Rattle.gathers.specs.LawsStored.{stored, stored_none, stored_more, stored_end, stored_small}
-use borrow.Author.Rules.{rules}
+use Rattle.gathers.specs.LawsStored.{stored}
 use Rattle.gathers.proofs.answers.store.Given as goal
 
 abbrev pub invariant-loop-i : goal.invariant-loop-i

@@ -1,7 +1,6 @@
 -- The form by its flag.
 use Rattle.print.specs.LawsPrint.{prints_as, printed}
 use Rattle.moves.specs.LawsPrograms.{newsheet_is, newsheet_short}
-use borrow.Author.Rules.{rules}
 use Rattle.moves.proofs.programs.newsheet.Goals as goal
 
 pub returns : goal.returns

@@ -1,7 +1,6 @@
 -- The form by its flag.
 use Rattle.print.specs.LawsPrint.{prints_as, printed}
 use Rattle.moves.specs.LawsPrograms.{oldsheet_is, oldsheet_short}
-use borrow.Author.Rules.{rules}
 use Rattle.moves.proofs.programs.oldsheet.Goals as goal
 
 pub returns : goal.returns

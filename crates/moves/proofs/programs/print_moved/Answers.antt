@@ -7,7 +7,6 @@ use lib.Seq.{length-take-le}
 use Rattle.print.specs.LawsPrint.{prints_as}
 use Rattle.moves.specs.LawsMove.{moved_short}
 use Rattle.moves.specs.LawsPrograms.{form_short, moved_unopened, moved_told, moved_all}
-use borrow.Author.Rules.{rules}
 use Rattle.moves.proofs.programs.print_moved.Goals as goal
 
 pub returns-then-opened-ne0 : goal.returns-then-opened-ne0

@@ -2,7 +2,6 @@
 use mathlib.Core.Path.{refl, sym}
 use mathlib.Core.Bool.{true}
 use Rattle.moves.specs.LawsWords.{form_new, moved_as}
-use borrow.Author.Rules.{rules}
 use Rattle.moves.proofs.sheets.to_new.Goals as goal
 
 pub returns : goal.returns

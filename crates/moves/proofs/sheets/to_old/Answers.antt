@@ -2,7 +2,6 @@
 use mathlib.Core.Path.{refl, sym}
 use mathlib.Core.Bool.{false}
 use Rattle.moves.specs.LawsWords.{form_old, moved_as}
-use borrow.Author.Rules.{rules}
 use Rattle.moves.proofs.sheets.to_old.Goals as goal
 
 pub returns : goal.returns

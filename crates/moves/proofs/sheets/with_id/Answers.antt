@@ -1,7 +1,6 @@
 -- The ID is the first line's.
 use mathlib.Core.Path.{ap}
 use Rattle.device.specs.LawsId.{with_id}
-use borrow.Author.Rules.{rules}
 use Rattle.moves.proofs.sheets.with_id.Goals as goal
 
 pub returns : goal.returns

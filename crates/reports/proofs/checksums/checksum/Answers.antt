@@ -5,7 +5,6 @@ use lib.Seq.{length-take-le}
 use Rattle.print.specs.LawsPrint.{prints_as, printed}
 use Rattle.board.specs.LawsBoard.{board_opened}
 use Rattle.reports.specs.LawsPrograms.{checksum_refused, checksum_found, checksum_short}
-use borrow.Author.Rules.{rules}
 use Rattle.reports.proofs.checksums.checksum.Goals as goal
 
 pub returns-then-opened-ne0 : goal.returns-then-opened-ne0

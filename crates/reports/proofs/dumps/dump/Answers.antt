@@ -6,7 +6,6 @@ use lib.Seq.{length-take-le}
 use Rattle.print.specs.LawsPrint.{prints_as, printed}
 use Rattle.board.specs.LawsBoard.{board_opened}
 use Rattle.reports.specs.LawsDump.{dump_refused, dump_23, dump_written, dump_short}
-use borrow.Author.Rules.{rules}
 use Rattle.reports.proofs.dumps.dump.Goals as goal
 
 pub returns-then-opened-ne0 : goal.returns-then-opened-ne0

@@ -1,11 +1,8 @@
 -- A word in each turn; what is left to copy gets shorter.
 use Prim.Native.Nat.{◌-◌, ◌≤◌}
-use mathlib.Core.Path.{◌≡◌, refl, ◌∙◌}
-use native.Mathlib.Omega.{arith}
-use borrow.Author.Rules.{rules}
+use mathlib.Core.Path.{◌≡◌}
 use lib.ListN.{length, drop}
 use lib.Seq.{sets}
-use Rattle.print.specs.LawsPrint.{text_turn, text_done}
 use Rattle.trials.proofs.played.copy.Given as goal
 
 abbrev pub invariant-loop-i : goal.invariant-loop-i

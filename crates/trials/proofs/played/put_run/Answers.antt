@@ -3,7 +3,6 @@ use mathlib.Core.Path.{sym}
 use native.Mathlib.Omega.{arith}
 use Rattle.print.specs.LawsPrint.{prints_as}
 use Rattle.trials.specs.LawsPlayed.{copy_room, cells_room, cells_part, cells_are, steps_few, run_room, run_part, run_sound, run_stopped, run_whole}
-use borrow.Author.Rules.{rules}
 use Rattle.trials.proofs.played.put_run.Goals as goal
 
 pub copy-requires : goal.copy-requires

@@ -8,7 +8,6 @@ use Rattle.print.specs.LawsPrint.{prints_as}
 use Rattle.sheetwrite.specs.LawsWrite.{written_short}
 use Rattle.board.specs.LawsWritten.{sheet_whole}
 use Rattle.trials.specs.LawsPlayed.{sheet_part, front_sound}
-use borrow.Author.Rules.{rules}
 use Rattle.trials.proofs.played.put_sheet.Goals as goal
 
 pub slice_bounds-write_sheet-end : goal.slice_bounds-write_sheet-end

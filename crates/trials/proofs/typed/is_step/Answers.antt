@@ -1,7 +1,6 @@
 -- Each test that fails makes the line no step, and the last one decides.
 use Rattle.trials.specs.LawsTyped.{no_step_length, no_step_code, no_step_tab, step_judged}
 use native.Mathlib.Omega.{arith}
-use borrow.Author.Rules.{rules}
 use Rattle.trials.proofs.typed.is_step.Goals as goal
 
 pub returns-then-line-ne7 : goal.returns-then-line-ne7

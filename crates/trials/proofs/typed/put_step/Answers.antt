@@ -1,7 +1,6 @@
 -- A step's code is below 256 and its payload below 65,536.
 use Rattle.trials.specs.LawsTyped.{step_code, step_payload, step_put}
 use native.Mathlib.Omega.{arith}
-use borrow.Author.Rules.{rules}
 use Rattle.trials.proofs.typed.put_step.Goals as goal
 
 pub overflow_cast-code : goal.overflow_cast-code

@@ -1,10 +1,7 @@
 -- The lines ahead give the rest of the stream.
-use Prim.Native.Nat.{◌+◌, ◌-◌}
 use mathlib.Core.Path.{sym, ◌∙◌}
 use native.Mathlib.Omega.{arith}
-use lib.ListN.{length}
-use borrow.Author.Rules.{rules}
-use Rattle.trials.specs.LawsTyped.{Typing, typing_all, typing_many, typing_stop, typing_on, typing_end}
+use Rattle.trials.specs.LawsTyped.{typing_all, typing_many, typing_stop, typing_on, typing_end}
 use Rattle.trials.proofs.typed.read_stream.Goals as goal
 
 pub loop-at-init : goal.loop-at-init
