@@ -1,3 +1,2 @@
 // The worked cases.
 #![tactic(auto)]
-

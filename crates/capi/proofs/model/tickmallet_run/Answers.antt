@@ -1,5 +1,4 @@
 -- The answer below is the same under the record that the six numbers give.
-use borrow.Author.Rules.{rules}
 use Rattle.capi.proofs.model.tickmallet_run.Goals as goal
 
 pub returns : goal.returns

@@ -1,5 +1,4 @@
 -- The record is read number by number.
-use borrow.Author.Rules.{rules}
 use mathlib.Core.Path.{refl}
 use Rattle.capi.specs.Crossing.{device_at}
 use Rattle.capi.proofs.record.device_at.Goals as goal

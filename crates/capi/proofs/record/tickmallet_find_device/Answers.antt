@@ -1,5 +1,4 @@
 -- Each part of the search's answer is stored as it is.
-use borrow.Author.Rules.{rules}
 use Rattle.capi.specs.LawsCrossing.{finds}
 use Rattle.capi.proofs.record.tickmallet_find_device.Goals as goal
 
