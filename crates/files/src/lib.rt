@@ -1,7 +1,9 @@
 // What stands around a program's call: its files are opened and read, and its text is written.
 #![tactic(auto)]
 
-ghost use Rattle.std.specs.Prelude.{◌≡◌, ◌<◌, ◌≤◌, length, take, IfSome, IfOk};
+ghost use Rattle.std.specs.Prelude.{◌≡◌, ◌<◌, ◌≤◌, length, take, IfSome, IsNone, IfOk};
+ghost use Rattle.std.specs.Counts.{IsPrefixLen};
+ghost use Rattle.std.specs.Io.{ReadsAtMost};
 ghost use Rattle.std.specs.Io.KnownBytes.{Appends};
 ghost use Rattle.std.specs.Process.{exit_status};
 
@@ -29,10 +31,11 @@ fn open_path<R: Files>(rt: &R, path: &[u8]) -> Option<R::File> {
 
 // Reads as much of a file as the buffer takes and closes it. One that is not open or cannot be read counts as empty.
 pub fn read<F: Read + Drop>(file: Option<F>, buffer: &mut [u8]) -> usize
-    ensures within { result ≤ length buffer.new }
+    ensures within { IsPrefixLen result buffer.new }
     ensures room { length buffer.new ≡ length buffer.old }
     ensures bytes { IfSome file (λ f. IfSome (F.remaining f) (λ xs.
         0 < result → take result buffer.new ≡ take (length buffer.new) xs)) }
+    ensures unopened { IsNone file → result ≡ 0 }
 {
     let Some(mut file) = file else {
         return 0;
@@ -42,7 +45,7 @@ pub fn read<F: Read + Drop>(file: Option<F>, buffer: &mut [u8]) -> usize
 
 // Reads until the buffer is full or the file ends.
 fn read_full<F: Read>(file: &mut F, buffer: &mut [u8]) -> io::Result<usize>
-    ensures within { IfOk result (λ n. n ≤ length buffer.new) }
+    ensures within { ReadsAtMost result buffer.new }
     ensures room { length buffer.new ≡ length buffer.old }
     ensures bytes { IfOk result (λ n. IfSome (F.remaining file.old) (λ xs.
         take n buffer.new ≡ take (length buffer.new) xs)) }
@@ -74,4 +77,60 @@ pub fn show<W: Write>(rt: &impl Eprint, to: &mut W, out: &[u8], n: usize) -> Exi
         return ExitCode::FAILURE;
     }
     ExitCode::SUCCESS
+}
+
+#[cfg(test)]
+mod tests {
+    use super::*;
+    use std::io::ErrorKind;
+    use std::test::Fail;
+
+    // A file that gives a byte at a time, and fails after so many.
+    #[derive(Drop)]
+    struct Torn {
+        left: usize,
+    }
+
+    impl Read for Torn {
+        fn read(&mut self, buf: &mut [u8]) -> io::Result<usize> {
+            if self.left == 0 {
+                return Err(io::Error::from(ErrorKind::Other));
+            }
+            if buf.is_empty() {
+                return Ok(0);
+            }
+            self.left -= 1;
+            buf[0] = b'x';
+            Ok(1)
+        }
+    }
+
+    #[test]
+    fn a_file_is_read_as_far_as_the_buffer_goes(rt: HostRuntime) -> Result<(), Fail> {
+        let mut buffer = [0u8; 4];
+        assert_eq!(rt; read(Some(b"abc".as_slice()), &mut buffer), 3);
+        assert_eq!(rt; buffer, *b"abc\0");
+        assert_eq!(rt; read(Some(b"defghi".as_slice()), &mut buffer), 4);
+        assert_eq!(rt; buffer, *b"defg");
+        assert_eq!(rt; read(Some(b"".as_slice()), &mut buffer), 0);
+        Ok(())
+    }
+
+    #[test]
+    fn a_file_that_fails_on_the_way_counts_as_empty(rt: HostRuntime) -> Result<(), Fail> {
+        let mut buffer = [0u8; 4];
+        assert_eq!(rt; read(Some(Torn { left: 3 }), &mut buffer), 0);
+        assert_eq!(rt; read(Some(Torn { left: 4 }), &mut buffer), 4);
+        Ok(())
+    }
+
+    #[test]
+    fn a_text_is_shown_whole_or_the_status_tells(rt: HostRuntime) -> Result<(), Fail> {
+        let mut room = [0u8; 3];
+        let mut to = room.as_mut_slice();
+        assert_eq!(rt; show(&rt, &mut to, b"abcd", 2), ExitCode::SUCCESS);
+        assert_eq!(rt; show(&rt, &mut to, b"abcd", 2), ExitCode::FAILURE);
+        assert_eq!(rt; room, *b"aba");
+        Ok(())
+    }
 }
