@@ -1,6 +1,8 @@
 // Requests are read and answered one after another, to the end of the input or the first that is malformed.
 use crate::request;
 use ask_io::LF;
+use std::io;
+use std::io::Read;
 
 // Where the next line begins, and its number; no line comes next where one was malformed.
 #[derive(Clone, Copy)]
@@ -10,29 +12,37 @@ struct Reached {
     is_sound: bool,
 }
 
-// Answers the requests of the input. A proved loop has to end, and nothing says that an input does: so it counts down from a number that no run uses up.
-pub(crate) fn serve(text: &mut [u8], a: &mut [u8], w: &mut [u16], v: &mut [u16], out: &mut [u8]) {
+// Answers the requests of the input. A proved loop has to end, and nothing says that an input does: so it turns as often as no run does.
+pub(crate) fn serve(
+    rt: &(impl Print + Eprint),
+    input: &mut impl Read,
+    text: &mut [u8],
+    a: &mut [u8],
+    w: &mut [u16],
+    v: &mut [u16],
+    out: &mut [u8],
+) -> io::Result<()> {
     let mut have = 0;
     let mut line: u64 = 1;
-    let mut turns = u64::MAX;
-    while 0 < turns {
-        turns -= 1;
-        let filled = ask_io::fill(text, have);
+    for _ in 0..u64::MAX {
+        let filled = ask_io::fill(input, text, have)?;
         if filled <= have {
-            ask_io::end_input(text, have, line);
-            return;
+            ask_io::end_input(rt, text, have, line);
+            return Ok(());
         }
-        let reached = answer_lines(text, filled, line, a, w, v, out);
-        if reached.is_sound {} else {
-            return;
+        let reached = answer_lines(rt, text, filled, line, a, w, v, out)?;
+        if !reached.is_sound {
+            return Ok(());
         }
         have = ask_io::keep(text, reached.at, filled);
         line = reached.line;
     }
+    Ok(())
 }
 
 // Answers each whole line of the text.
 fn answer_lines(
+    rt: &(impl Print + Eprint),
     text: &[u8],
     have: usize,
     first: u64,
@@ -40,29 +50,30 @@ fn answer_lines(
     w: &mut [u16],
     v: &mut [u16],
     out: &mut [u8],
-) -> Reached {
+) -> io::Result<Reached> {
     let mut at = 0;
     let mut line = first;
     while at < have {
-        let next = answer_next(text, at, have, line, a, w, v, out);
-        if next.is_sound {} else {
-            return next;
+        let next = answer_next(rt, text, at, have, line, a, w, v, out)?;
+        if !next.is_sound {
+            return Ok(next);
         }
         if next.at <= at {
-            return next;
+            return Ok(next);
         }
         at = next.at;
         line = next.line;
     }
-    Reached {
+    Ok(Reached {
         at,
         line,
         is_sound: true,
-    }
+    })
 }
 
 // Answers the line that begins at a place, if it is whole.
 fn answer_next(
+    rt: &(impl Print + Eprint),
     text: &[u8],
     at: usize,
     have: usize,
@@ -71,23 +82,23 @@ fn answer_next(
     w: &mut [u16],
     v: &mut [u16],
     out: &mut [u8],
-) -> Reached {
+) -> io::Result<Reached> {
     if have <= text.len() {
         if at < have {
             let stop = marks::find(text, at, have, LF);
             if stop < have {
                 let end = request::answer(&text[at..stop], a, w, v, out);
-                return Reached {
+                return Ok(Reached {
                     at: stop + 1,
                     line: ask_io::next_line(line),
-                    is_sound: ask_io::tell(out, end, line),
-                };
+                    is_sound: ask_io::tell(rt, out, end, line)?,
+                });
             }
         }
     }
-    Reached {
+    Ok(Reached {
         at,
         line,
         is_sound: true,
-    }
+    })
 }

@@ -1,7 +1,7 @@
 // The fields of a request, read one after another. Each is read from the space that parts it from what stands before it, and answers
 // where it ends. A malformed field ends nowhere, and nothing can be read from there: so one look at the last field's end judges them all.
 ghost use Rattle.std.specs.Prelude.{◌≤◌};
-ghost use Rattle.io.specs.Counts.{IsPrefixLen};
+ghost use Rattle.std.specs.Counts.{IsPrefixLen};
 
 use device::Device;
 

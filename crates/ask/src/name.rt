@@ -1,5 +1,5 @@
 // The names of requests.
-ghost use Rattle.io.specs.Counts.{IsPrefixLen};
+ghost use Rattle.std.specs.Counts.{IsPrefixLen};
 
 // Where an answer ends whose request has a name that no request has.
 pub const UNKNOWN: usize = usize::MAX - 1;
@@ -28,15 +28,5 @@ pub fn place(names: &[u8], name: &[u8]) -> usize {
 
 // Whether two texts are the same.
 fn is_same(a: &[u8], b: &[u8]) -> bool {
-    if a.len() != b.len() {
-        return false;
-    }
-    let mut i = 0;
-    while i < a.len() {
-        if a[i] != b[i] {
-            return false;
-        }
-        i += 1;
-    }
-    true
+    a == b
 }

@@ -5,10 +5,14 @@ use device::Device;
 
 // A number.
 pub fn number(out: &mut [u8], at: usize, n: u64) -> usize {
-    let mut digits = [0u8; 20];
-    let count = io::decimal(n, &mut digits);
     let from = mark(out, at, b' ');
-    text(out, from, &digits[..count])
+    decimal(out, from, n)
+}
+
+// The digits of a number, the highest first.
+fn decimal(out: &mut [u8], at: usize, n: u64) -> usize {
+    let last = if n < 10 { at } else { decimal(out, at, n / 10) };
+    mark(out, last, b'0' + (n % 10) as u8)
 }
 
 // Two numbers.
@@ -60,10 +64,8 @@ pub fn mark(out: &mut [u8], at: usize, c: u8) -> usize {
 // A text as it stands.
 pub fn text(out: &mut [u8], from: usize, s: &[u8]) -> usize {
     let mut at = from;
-    let mut i = 0;
-    while i < s.len() {
-        at = mark(out, at, s[i]);
-        i += 1;
+    for c in s {
+        at = mark(out, at, *c);
     }
     at
 }
@@ -71,17 +73,15 @@ pub fn text(out: &mut [u8], from: usize, s: &[u8]) -> usize {
 // Two digits a byte.
 fn hex_bytes(out: &mut [u8], from: usize, s: &[u8]) -> usize {
     let mut at = from;
-    let mut i = 0;
-    while i < s.len() {
+    for b in s {
         if out.len() < at {
             return NOWHERE;
         }
         if out.len() - at < 2 {
             return NOWHERE;
         }
-        numerals::hex::put_byte(out, at, s[i]);
+        numerals::hex::put_byte(out, at, *b);
         at += 2;
-        i += 1;
     }
     at
 }
@@ -89,17 +89,15 @@ fn hex_bytes(out: &mut [u8], from: usize, s: &[u8]) -> usize {
 // Four digits a word.
 fn hex_words(out: &mut [u8], from: usize, s: &[u16]) -> usize {
     let mut at = from;
-    let mut i = 0;
-    while i < s.len() {
+    for w in s {
         if out.len() < at {
             return NOWHERE;
         }
         if out.len() - at < 4 {
             return NOWHERE;
         }
-        numerals::hex::put_word(out, at, s[i]);
+        numerals::hex::put_word(out, at, *w);
         at += 4;
-        i += 1;
     }
     at
 }

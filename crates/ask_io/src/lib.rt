@@ -1,38 +1,34 @@
 // The lines of standard input, the answers on standard output, and what is said on standard error.
 #![tactic(auto)]
 
+ghost use Rattle.std.specs.Prelude.{◌≡◌, ◌≤◌, length, take, IfOk};
+
 use ask::name::UNKNOWN;
 use ask::put;
-use libc::{STDERR_FILENO, STDIN_FILENO, STDOUT_FILENO};
+use std::io;
+use std::io::Read;
 
 // The character that ends a line.
 pub const LF: u8 = 10;
 
 // Reads more after the bytes that are there, and answers how many there are then.
-pub fn fill(text: &mut [u8], have: usize) -> usize {
+pub fn fill<R: Read>(input: &mut R, text: &mut [u8], have: usize) -> io::Result<usize>
+    ensures more { IfOk result (λ n. have ≤ n) }
+    ensures within { IfOk result (λ n. have ≤ length text.old → n ≤ length text.new) }
+    ensures room { length text.new ≡ length text.old }
+    ensures kept { take have text.new ≡ take have text.old }
+{
     if text.len() <= have {
-        return have;
+        return Ok(have);
     }
-    let room = text.len() - have;
-    let more = fill_part(&mut text[have..]);
-    if more <= room {
-        return have + more;
-    }
-    have
-}
-
-// Reads once, and answers how many bytes came.
-fn fill_part(part: &mut [u8]) -> usize {
-    let got = libc::read(STDIN_FILENO, part);
-    if got < 0 {
-        os::fail(b"answer: read");
-        return 0;
-    }
-    io::count(got, part)
+    let more = input.read(&mut text[have..])?;
+    Ok(have + more)
 }
 
 // Moves the bytes from a place on to the front, and answers how many there are.
-pub fn keep(text: &mut [u8], from: usize, have: usize) -> usize {
+pub fn keep(text: &mut [u8], from: usize, have: usize) -> usize
+    ensures { length text.new ≡ length text.old }
+{
     let mut n = 0;
     let mut i = from;
     while i < have {
@@ -50,36 +46,36 @@ pub fn keep(text: &mut [u8], from: usize, have: usize) -> usize {
 }
 
 // Writes an answer, or says what is wrong with the request; answers whether to go on.
-pub fn tell(out: &mut [u8], end: usize, line: u64) -> bool {
+pub fn tell(rt: &(impl Print + Eprint), out: &mut [u8], end: usize, line: u64) -> io::Result<bool>
+    ensures { length out.new ≡ length out.old }
+{
     if end == UNKNOWN {
-        complain(line, b"no request has this name");
-        return false;
+        complain(rt, line, "no request has this name");
+        return Ok(false);
     }
     let whole = put::mark(out, end, LF);
     if whole <= out.len() {
-        return io::write_all(STDOUT_FILENO, &out[..whole]);
+        rt.write_all(&out[..whole])?;
+        return Ok(true);
     }
-    complain(line, b"a field is missing, too many or not of its kind");
-    false
+    complain(rt, line, "a field is missing, too many or not of its kind");
+    Ok(false)
 }
 
 // Says what is wrong with a line that the input leaves unended.
-pub fn end_input(text: &[u8], have: usize, line: u64) {
+pub fn end_input(rt: &impl Eprint, text: &[u8], have: usize, line: u64) {
     if text.len() <= have {
-        complain(line, b"the line is too long");
+        complain(rt, line, "the line is too long");
         return;
     }
     if 0 < have {
-        complain(line, b"the input ends inside a line");
+        complain(rt, line, "the input ends inside a line");
     }
 }
 
-fn complain(line: u64, what: &[u8]) {
-    io::write_all(STDERR_FILENO, b"answer: line ");
-    io::print_decimal(STDERR_FILENO, line);
-    io::write_all(STDERR_FILENO, b": ");
-    io::write_all(STDERR_FILENO, what);
-    io::write_all(STDERR_FILENO, b"\n");
+// A message that cannot be written is lost, as the request is.
+fn complain(rt: &impl Eprint, line: u64, what: &str) {
+    let _ = eprintln!(rt; "answer: line {line}: {what}");
 }
 
 pub fn next_line(line: u64) -> u64 {

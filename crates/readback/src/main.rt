@@ -1,12 +1,14 @@
 // Prints the steps that read a board's words, or why they are refused: device.tab and board.txt, of which only line 1 counts, or the two files that the arguments name.
 #![tactic(auto)]
 
-fn main() {
-    let mut table = io::buffer();
-    let t = files::read(files::open(1, b"device.tab"), &mut table);
-    let mut sheet = io::large_buffer();
-    let s = files::read(files::open(2, b"board.txt"), &mut sheet);
+use std::process::ExitCode;
+
+fn main(rt: HostRuntime) -> ExitCode {
+    let mut table = [0u8; 4096];
+    let t = files::read(files::open(&rt, 1, "device.tab"), &mut table);
+    let mut sheet = [0u8; 65536];
+    let s = files::read(files::open(&rt, 2, "board.txt"), &mut sheet);
     let mut out = [0u8; 147632];
     let n = listings::readback(&table[..t], &sheet[..s], &mut out);
-    files::show(&out, n);
+    files::show(&rt, &mut rt.stdout(), &out, n)
 }

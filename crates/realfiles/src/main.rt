@@ -3,16 +3,18 @@
 
 mod show;
 
-fn main() {
-    show::file(b"assembled.hex");
-    show::file(b"dos.hex");
-    show::file(b"linked.hex");
-    show::file(b"srecord.hex");
-    show::file(b"short.hex");
-    show::file(b"started.hex");
-    show::file(b"objcopy.hex");
-    show::file(b"objcopy_start.hex");
-    show::file(b"rewritten.hex");
-    show::file(b"far.hex");
-    show::file(b"motorola.hex");
+use std::io;
+
+fn main(rt: HostRuntime) -> io::Result<()> {
+    show::file(&rt, "assembled.hex")?;
+    show::file(&rt, "dos.hex")?;
+    show::file(&rt, "linked.hex")?;
+    show::file(&rt, "srecord.hex")?;
+    show::file(&rt, "short.hex")?;
+    show::file(&rt, "started.hex")?;
+    show::file(&rt, "objcopy.hex")?;
+    show::file(&rt, "objcopy_start.hex")?;
+    show::file(&rt, "rewritten.hex")?;
+    show::file(&rt, "far.hex")?;
+    show::file(&rt, "motorola.hex")
 }
