@@ -1,8 +1,4 @@
--- No byte is stored past the one that is read.
-use Prim.Native.Nat.{◌-◌}
-use mathlib.Core.Path.{◌≡◌}
-use lib.ListN.{length}
-use borrow.Author.Rules.{rules}
+use Rattle.std.proofs.Common.{length, ◌-◌, ◌≡◌}
 use Rattle.ask_io.proofs.keep.Given as goal
 
 abbrev pub invariant-loop-i : goal.invariant-loop-i
