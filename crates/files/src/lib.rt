@@ -14,7 +14,7 @@ use std::process::ExitCode;
 use std::{fs, io};
 
 // Opens the file that an argument names, or else the one of this name.
-pub fn open<R: Files + Env>(rt: &R, argument: usize, name: &str) -> Option<R::File> {
+pub fn open<R: Files + Env + Eprint>(rt: &R, argument: usize, name: &str) -> Option<R::File> {
     let mut path = [0u8; 4096];
     match rt.arg(argument, &mut path) {
         Ok(n) => open_path(rt, &path[..n]),
@@ -23,9 +23,12 @@ pub fn open<R: Files + Env>(rt: &R, argument: usize, name: &str) -> Option<R::Fi
     }
 }
 
-// Opens the file of a name that is text.
-fn open_path<R: Files>(rt: &R, path: &[u8]) -> Option<R::File> {
-    let path = str::from_utf8(path).ok()?;
+// Opens the file of a name that is text, and says on standard error if it is not, since no other can be opened.
+fn open_path<R: Files + Eprint>(rt: &R, path: &[u8]) -> Option<R::File> {
+    let Ok(path) = str::from_utf8(path) else {
+        let _ = eprintln!(rt; "open: a name that is not UTF-8");
+        return None;
+    };
     fs::open(rt, path).ok()
 }
 
