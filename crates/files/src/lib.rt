@@ -14,11 +14,11 @@ use std::process::ExitCode;
 use std::{fs, io};
 
 // Opens the file that an argument names, or else the one of this name.
-pub fn open<R: Files + Env + Eprint>(rt: &R, argument: usize, name: &str) -> Option<R::File> {
+pub fn open<R: Files + Env + Eprint>(rt: &R, argument: usize, name: &[u8]) -> Option<R::File> {
     let mut path = [0u8; 4096];
     match rt.arg(argument, &mut path) {
         Ok(n) => open_path(rt, &path[..n]),
-        Err(FillError::NotPresent) => fs::open(rt, name).ok(),
+        Err(FillError::NotPresent) => open_path(rt, name),
         Err(FillError::TooLong) => None,
     }
 }
