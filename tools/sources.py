@@ -13,6 +13,11 @@ def read(path):
     return path.read_text() if path.is_file() else ""
 
 
+def code(path):
+    """A source file without its tests, which stand last in it."""
+    return read(path).split("#[cfg(test)]")[0]
+
+
 @cache
 def declared(path):
     """The names that a file declares; of what stands inside another thing, only what is pub."""
