@@ -60,8 +60,11 @@ class Mended:
             elif to != goal:
                 renamed[goal] = to
                 self.say(goal, to, sure)
-        partners = {to for to, _ in pairs.values()}
-        self.fresh = [name for name in names if name not in partners | {renamed.get(goal, goal) for goal in answered}]
+        # a goal of clauses is answered whole, or clause by clause
+        whole = lambda name: name.partition("-clause-")[0]
+        there = {renamed.get(goal, goal) for goal in answered} - gone
+        known = {to for to, _ in pairs.values()} | there | {whole(name) for name in names if whole(name) != name}
+        self.fresh = [name for name in names if name not in known and whole(name) not in there]
         self.lines += ["  %s: the goal is new" % name for name in self.fresh]
         kept = "".join(text for text, goal in parts if goal not in gone)
         steps = self.moved_steps(kept, old_steps, new_steps)

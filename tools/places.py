@@ -15,6 +15,9 @@ class Goal:
 
 def kind(name):
     """What a goal is, apart from the names of the source: two of one kind can be one goal under two names."""
+    name, _, clause = name.partition("-clause-")
+    if clause:
+        return kind(name) + " clause " + clause
     parts = name.split("-")
     if "requires" in parts[1:]:
         return "requires " + parts[0]
@@ -24,9 +27,20 @@ def kind(name):
 
 def asked(files, code):
     """The goals of the files that rt offers, by the file's name; `code` gives the lines of a source file. And the steps, in their order."""
-    made = {name: [Goal(m.group(3), about(text, m.start(), code)) for m in HEAD.finditer(text)] for name, text in files.items() if name in FILES}
+    made = {name: with_wholes([Goal(m.group(3), about(text, m.start(), code)) for m in HEAD.finditer(text)]) for name, text in files.items() if name in FILES}
     steps = re.findall(r"^ *pub (\S+) : (?:Own|Step)-\S+ before$", files["steps"], re.M)
     return dict(made, steps=[Goal(name, "") for name in dict.fromkeys(steps) if "slice_known" not in name])
+
+def with_wholes(goals):
+    """The goals, and before those of single clauses the one of all of them together, as which they may be answered too."""
+    made, names = [], set()
+    for goal in goals:
+        whole = goal.name.partition("-clause-")[0]
+        if whole != goal.name and whole not in names:
+            made.append(Goal(whole, goal.about))
+        made.append(goal)
+        names |= {whole, goal.name}
+    return made
 
 def about(text, at, code):
     """The code at the place that stands in the comment above a goal."""
