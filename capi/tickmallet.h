@@ -1,5 +1,5 @@
-/* Tickmallet for C: the calls of libcapi.a, which `rt staticlib capi` proves and builds for x86-64, and which is libtickmallet.a where
-   capi/install has put it.
+/* Tickmallet for C: the calls of libcapi.a, which `rt lib` in crates/capi proves and builds for x86-64, and which is libtickmallet.a
+   where capi/install has put it.
 
    How values cross
    - A call returns its number: 0, or the refusal as the paper counts it (verify also 40 and 41).

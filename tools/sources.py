@@ -4,7 +4,7 @@ from functools import cache
 from pathlib import Path
 
 ROOT = Path(__file__).resolve().parent.parent
-CRATES = re.findall(r"^(\w+):", (ROOT / "crates.txt").read_text(), re.M)
+CRATES = re.findall(r"^(\w+)(?: [^:#]*)?:", (ROOT / "crates.txt").read_text(), re.M)
 FUNCTION = r'(?:pub(?:\(crate\))? )?(?:extern "C" )?fn '
 
 
@@ -13,12 +13,17 @@ def read(path):
     return path.read_text() if path.is_file() else ""
 
 
+def code(path):
+    """A source file without its tests, which stand last in it."""
+    return read(path).split("#[cfg(test)]")[0]
+
+
 @cache
 def declared(path):
     """The names that a file declares; of what stands inside another thing, only what is pub."""
     if path.suffix == ".rt":
         return set(re.findall(rf"^ *(?:{FUNCTION}|(?:pub )?(?:struct|enum|const) )(\w+)", read(path), re.M))
-    form = r"^( *)((?:(?:pub|unfoldable|abbrev) )*)(?:(?:record|data) ([^\s:]+)|([^\s:(){}]+) :)"
+    form = r"^( *)((?:(?:pub|unfoldable|abbrev) )*)(?:(?:record|data|ruleset) ([^\s:]+)|([^\s:(){}]+) :)"
     found = re.findall(form, read(path), re.M)
     return {thing or name for indent, marks, thing, name in found if not indent or "pub" in marks}
 
@@ -29,6 +34,13 @@ def known():
     code, proofs = (sorted(ROOT.glob(f"crates/**/*.{suffix}")) for suffix in ("rt", "antt"))
     cases = {case for file in code for case in re.findall(r"^    ([A-Z]\w+)(?:\(.*\))?,$", read(file), re.M)}
     return cases.union(*map(declared, code + proofs))
+
+
+@cache
+def named():
+    """Every name in snake case that a page may write: also those of crates, of edits, and of the commands of the bench."""
+    commands = re.findall(r"^  (\w+)  ", read(ROOT / "tickmallet"), re.M)
+    return known().union(CRATES, commands, *map(edits, CRATES))
 
 
 @cache
@@ -57,13 +69,13 @@ def calls(crate):
 @cache
 def laws(crate):
     text = read(ROOT / "crates" / crate / "proofs/Determined.antt")
-    return set(re.findall(r"^ *pub (\S+-determined) :", text, re.M))
+    return set(re.findall(r"^ *pub (\S+_determined) :", text, re.M))
 
 
 def law_of(call):
     """The names that the law of a call may have."""
-    plain = call.removeprefix("tickmallet_").lower().replace("_", "-")
-    return {f"{plain.replace('::', '-')}-determined", f"{plain.split('::')[-1]}-determined"}
+    plain = call.removeprefix("tickmallet_").lower()
+    return {f"{plain.replace('::', '_')}_determined", f"{plain.split('::')[-1]}_determined"}
 
 
 @cache
