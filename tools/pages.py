@@ -4,8 +4,9 @@ from functools import cache
 
 from sources import ROOT, read
 
-# PORT.md tells of names and files that are gone, so nothing holds it to the code.
-PAGES = [page for form in ("*.md", "docs/*.md", "capi/*.md", "tests/*/*.md") for page in sorted(ROOT.glob(form)) if page.name != "PORT.md"]
+# docs/PORT.md tells of what is gone.
+FORMS = ("*.md", "docs/*.md", "capi/*.md", "tests/*/*.md")
+PAGES = [page for form in FORMS for page in sorted(ROOT.glob(form)) if page != ROOT / "docs/PORT.md"]
 SPAN = re.compile(r"`([^`]+)`")
 
 
