@@ -45,7 +45,7 @@ overflow_add-j c = omega (arith, c.loop-j.invariant.room)
 
 pub loop-j-preserved : goal.loop-j-preserved
 loop-j-preserved c = program_on _ _ _ _ _ _ c.loop-j.invariant c.loop-j-test.true _
-    c.word_at-word.ensures c.if-word-ge-WORD_LIMIT.false c.if-image-first.false
+    c.word_at-word.ensures c.if-word-ge-WORD_LIMIT.false (omega arith)
 
 pub shape_of-image : goal.shape_of-image
 shape_of-image c = c.loop-j.invariant.kept

@@ -23,4 +23,4 @@ returns-then-own-sum c = fields_19 _ _ _ _ _ _ _ c.requires.1 c.requires.2 _
 
 pub returns : goal.returns
 returns c = fields_0 _ _ _ _ _ _ _ c.requires.1 c.requires.2 _
-    c.same-named.ensures c.if-named.true _ c.sum_in-own.ensures c.if-own-sum.false
+    c.same-named.ensures c.if-named.true _ c.sum_in-own.ensures (omega arith)

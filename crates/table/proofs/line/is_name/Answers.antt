@@ -6,13 +6,13 @@ use Rattle.table.specs.LawsLine.{name_empty, name_long, name_of, printable_on, p
 use Rattle.table.proofs.line.is_name.Goals as goal
 
 pub returns-then-f-lt1 : goal.returns-then-f-lt1
-returns-then-f-lt1 c = sym (name_empty _ c.if-f-lt1.true)
+returns-then-f-lt1 c = sym (name_empty _ (omega arith))
 
 pub returns-then-f-gt16 : goal.returns-then-f-gt16
 returns-then-f-gt16 c = sym (name_long _ c.if-f-gt16.true)
 
 pub loop-i-init : goal.loop-i-init
-loop-i-init c = (search rules, name_of _ c.if-f-lt1.false c.if-f-gt16.false)
+loop-i-init c = (search rules, name_of _ (omega arith) c.if-f-gt16.false)
 
 pub returns-then-c-lt32 : goal.returns-then-c-lt32
 returns-then-c-lt32 c = sym (c.loop-i.invariant.1 ∙ printable_low _ _ c.loop-i-test.true c.if-c-lt32.true)
