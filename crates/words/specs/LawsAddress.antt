@@ -1,5 +1,5 @@
 -- Laws of the map between word addresses and entries, of doubling and halving, and of the counter's successor.
-use Rattle.std.specs.Prelude.{ℕ, ◌+◌, ◌-◌, ◌*◌, ◌/◌, ◌%◌, ◌≤◌, ◌<◌, ◌≡◌, eqb}
+use Rattle.std.specs.Prelude.{ℕ, Option, Some, None, ◌+◌, ◌-◌, ◌*◌, ◌/◌, ◌%◌, ◌≤◌, ◌<◌, ◌≡◌, eqb}
 use Rattle.std.proofs.Common.{arith, sym, ap, ◌∙◌}
 use Rattle.std.proofs.Math.Decide.{dec_lt, ℕ_discrete}
 use borrow.Author.Tests.{lt-ltb, le-ltb, eq-eqb, ne_eqb}
@@ -7,36 +7,34 @@ use Rattle.words.specs.Choice.{pick}
 use Rattle.words.specs.Address.{config_base, placed, doubled, halved, entry_of, address_of, place_of, successor}
 use Rattle.words.specs.declared.WordAddress.{WordAddress}
 use Rattle.words.specs.declared.ByteAddress.{ByteAddress}
-use Rattle.words.specs.declared.Place.{Place}
-use Rattle.words.specs.declared.Place.TheVariants.{At, Nowhere}
 
 -- ---- doubling and halving
 
-pub placed_at : (n : ℕ) → n < 0x10000 → placed n ≡ At (record { 0 = n })
+pub placed_at : (n : ℕ) → n < 0x10000 → placed n ≡ Some (record { 0 = n })
 unfolding placed pick
 placed_at n h = rw (lt-ltb n 0x10000 h)
 
-pub placed_nowhere : (n : ℕ) → 0x10000 ≤ n → placed n ≡ Nowhere
+pub placed_nowhere : (n : ℕ) → 0x10000 ≤ n → placed n ≡ None
 unfolding placed pick
 placed_nowhere n h = rw (le-ltb n 0x10000 h)
 
 -- a word's own byte address leads back to it
-pub halved_doubled : (a : WordAddress) → a.0 < 0x10000 → halved (doubled a) ≡ At a
+pub halved_doubled : (a : WordAddress) → a.0 < 0x10000 → halved (doubled a) ≡ Some a
 unfolding halved doubled pick
 halved_doubled a h =
     let half : 2 * a.0 / 2 ≡ a.0 = omega arith in
     let even : 2 * a.0 % 2 ≡ 0 = omega arith in
     rw (eq-eqb (2 * a.0 % 2) 0 even, half) (placed_at a.0 h)
 
-pub halved_odd : (b : ByteAddress) → (b.0 % 2 ≡ 0 → ⊥) → halved b ≡ Nowhere
+pub halved_odd : (b : ByteAddress) → (b.0 % 2 ≡ 0 → ⊥) → halved b ≡ None
 unfolding halved pick
 halved_odd b h = rw (ne_eqb (b.0 % 2) 0 h)
 
-pub halved_far : (b : ByteAddress) → 0x20000 ≤ b.0 → halved b ≡ Nowhere
+pub halved_far : (b : ByteAddress) → 0x20000 ≤ b.0 → halved b ≡ None
 unfolding halved pick
 halved_far b h = by (ℕ_discrete (b.0 % 2) 0)
   where
-    by : Dec (b.0 % 2 ≡ 0) → pick (eqb (b.0 % 2) 0) (placed (b.0 / 2)) Nowhere ≡ Nowhere
+    by : Dec (b.0 % 2 ≡ 0) → pick (eqb (b.0 % 2) 0) (placed (b.0 / 2)) None ≡ None
     by (yes e) = rw (eq-eqb (b.0 % 2) 0 e) (placed_nowhere (b.0 / 2) (omega arith))
     by (no e) = rw (ne_eqb (b.0 % 2) 0 e)
 
@@ -46,12 +44,12 @@ unfolding halved pick
 halved_even b e = rw (eq-eqb (b.0 % 2) 0 e)
 
 -- what a place tells: its address and one, or nothing
-told : Place → ℕ
-told (At a) = a.0 + 1
-told Nowhere = 0
+told : Option WordAddress → ℕ
+told (Some a) = a.0 + 1
+told None = 0
 
 -- a byte address that leads to a word is that word's own
-pub doubled_of_halved : (b : ByteAddress) (a : WordAddress) → halved b ≡ At a → b ≡ doubled a
+pub doubled_of_halved : (b : ByteAddress) (a : WordAddress) → halved b ≡ Some a → b ≡ doubled a
 unfolding doubled told
 doubled_of_halved b a e = by (ℕ_discrete (b.0 % 2) 0) (dec_lt (b.0 / 2) 0x10000)
   where
@@ -129,7 +127,7 @@ entry_injective base words tail a b low h e =
     ∙ (ap (address_of base words) e ∙ address_of_entry base words tail b low (rw (← e) h))
 
 -- an entry's place is its address, where 16 bits hold the last of them
-pub place_of_lem : (base words tail i : ℕ) → words ≤ base → base + tail ≤ 0x10000 → i < words + tail → place_of base words tail i ≡ At (record { 0 = address_of base words i })
+pub place_of_lem : (base words tail i : ℕ) → words ≤ base → base + tail ≤ 0x10000 → i < words + tail → place_of base words tail i ≡ Some (record { 0 = address_of base words i })
 unfolding place_of pick
 place_of_lem base words tail i low fits h = rw (lt-ltb i (words + tail) h) (placed_at (address_of base words i) (by (dec_lt i words)))
   where

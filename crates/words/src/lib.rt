@@ -5,19 +5,12 @@ pub mod address;
 pub mod list;
 
 // The address of a word of the target.
-#[derive(Clone, Copy)]
+#[derive(Clone, Copy, Debug, PartialEq, Eq, PartialOrd, Ord)]
 pub struct WordAddress(pub u16);
 
 // The address of a byte of HEX text: wide enough that no sum of an upper half, an offset and a place wraps.
-#[derive(Clone, Copy)]
+#[derive(Clone, Copy, Debug, PartialEq, Eq, PartialOrd, Ord)]
 pub struct ByteAddress(pub u64);
-
-// What leads to a word address may lead nowhere.
-#[derive(Clone, Copy)]
-pub enum Place {
-    At(WordAddress),
-    Nowhere,
-}
 
 // A word has 14 bits.
 pub const WORD_LIMIT: u16 = 0x4000;

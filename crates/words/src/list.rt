@@ -9,21 +9,16 @@ use crate::WORD_LIMIT;
 pub fn is_words(l: &[u16], n: usize) -> bool
     ensures { result ≡ words_of n l.now }
 {
-    if l.len() != n {
-        return false;
-    }
-    join(l) < WORD_LIMIT
+    l.len() == n && join(l) < WORD_LIMIT
 }
 
 // The bits of all entries together: the loop has no way out but its end, so that several entries are taken at once.
 fn join(l: &[u16]) -> u16
     ensures { Joined (length l.now) (λ k. get_or l.now k 0) result }
 {
-    let mut all: u16 = 0;
-    let mut i: usize = 0;
-    while i < l.len() {
-        all = all | l[i];
-        i += 1;
+    let mut all = 0;
+    for entry in l {
+        all |= *entry;
     }
     all
 }

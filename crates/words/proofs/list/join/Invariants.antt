@@ -1,11 +1,7 @@
 -- The bits of the entries passed are joined.
-use Prim.Native.Nat.{◌≤◌, ◌-◌}
-use lib.ListN.{length, get_or}
+use Rattle.std.proofs.Common.{get_or}
 use Rattle.words.specs.LawsJoined.{Joined}
 use Rattle.words.proofs.list.join.Given as goal
 
-abbrev pub invariant-loop-i : goal.invariant-loop-i
-invariant-loop-i l = (l.i ≤ length l.l) × Joined l.i (λ k. get_or l.l k 0) l.all
-
-abbrev pub decreases-loop-i : goal.decreases-loop-i
-decreases-loop-i l = length l.l - l.i
+abbrev pub invariant-loop-entry : goal.invariant-loop-entry
+invariant-loop-entry l = Joined l.entry-index (λ k. get_or l.l k 0) l.all

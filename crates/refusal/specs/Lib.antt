@@ -1,0 +1,3 @@
+-- The numbers of refusals, and their laws.
+pub mod Refusal
+pub mod LawsRefusal
