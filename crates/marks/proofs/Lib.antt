@@ -1,0 +1,2 @@
+-- That each promise fixes its answer.
+pub mod Determined
