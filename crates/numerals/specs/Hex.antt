@@ -1,6 +1,6 @@
 -- Hex digits and their text ('HEX text', 'Sheets', 'The device table'). Text is a list of bytes, and past its end a list
 -- reads 0, which is no digit.
-use Rattle.std.specs.Prelude.{ℕ, ◌+◌, ◌-◌, ◌*◌, ◌/◌, ◌%◌, Bool, ◌&&◌, List, [], ◌∷◌, ◌++◌, ltb, leb, get_or}
+use Rattle.std.specs.Prelude.{ℕ, true, false, ◌+◌, ◌-◌, ◌*◌, ◌/◌, ◌%◌, Bool, ◌&&◌, List, [], ◌∷◌, ◌++◌, ltb, leb, get_or}
 use Rattle.words.specs.Choice.{pick}
 
 -- from the character a to the character b
@@ -21,6 +21,11 @@ capital_of c =
     pick (within 0x30 0x39 c) (c - 0x30)
     (pick (within 0x41 0x46 c) (c - 0x41 + 10)
     16)
+
+-- the two readings of a digit: capitals alone, or either case
+unfoldable pub digit_by : (capital : Bool) → ℕ → ℕ
+digit_by true = capital_of
+digit_by false = digit_of
 
 -- two numbers below `limit` as one, the first the higher; limit × limit if either is no such number
 unfoldable pub joined : (limit high low : ℕ) → ℕ

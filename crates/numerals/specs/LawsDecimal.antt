@@ -1,16 +1,16 @@
 -- Laws of decimal numbers: what is left to read of one, digit by digit.
-use Rattle.std.specs.Prelude.{ℕ, suc, ◌+◌, ◌-◌, ◌*◌, ◌≤◌, ◌<◌, ◌≡◌, Bool, true, ◌&&◌, List, [], ◌∷◌, ltb, eqb, length, get_or}
+use Rattle.std.specs.Prelude.{ℕ, suc, ◌+◌, ◌-◌, ◌*◌, ◌≤◌, ◌<◌, ◌≡◌, Bool, true, ◌&&◌, List, [], ◌∷◌, None, ltb, eqb, length, get_or}
 use native.Mathlib.Nat.{le_refl, le_trans}
 use Rattle.std.proofs.Math.Numerals.{add-one}
-use Rattle.std.proofs.Common.{arith, ◌∙◌, drop_of_length-le, drop-cons}
+use Rattle.std.proofs.Common.{arith, sym, ◌∙◌, drop_of_length-le, drop-cons}
 use Rattle.std.proofs.Math.Path.{refl, ap}
 use Rattle.std.proofs.Math.Bool.{false}
 use Rattle.std.proofs.Math.Dec.{leb}
 use Rattle.std.proofs.Math.ListN.{drop}
 use borrow.Author.Tests.{lt-ltb, le-ltb, le-leb, lt-leb, eq-eqb, ne_eqb}
-use Rattle.words.specs.Choice.{pick}
+use Rattle.words.specs.Choice.{pick, below}
 use Rattle.words.specs.LawsChoice.{pick_true, pick_false, both, second_fails, first_holds}
-use Rattle.numerals.specs.LawsHex.{within_yes, within_low, within_high}
+use Rattle.numerals.specs.LawsHex.{within_yes, within_no, below_no}
 use Rattle.numerals.specs.Decimal.{all_digits, value_after, value_of, leading_zero, is_decimal, decimal_of}
 
 -- the answer when `before` has been read and l is left
@@ -35,6 +35,22 @@ pub decimal_single : (bound : ℕ) (l : List ℕ) → 0 < length l → length l 
 unfolding decimal_of is_decimal leading_zero left_of value_of
 decimal_single bound l h s = rw (lt-ltb 0 (length l) h, second_fails (eqb (get_or l 0 0) 0x30) (ltb 1 (length l)) (le-ltb 1 (length l) s))
 
+-- what the calls answer
+module _ (bound : ℕ) (l : List ℕ) where
+  pub told_empty : length l ≡ 0 → below (bound + 1) (decimal_of bound l) ≡ None
+  told_empty h = sym (below_no (bound + 1) _ (decimal_empty bound l h))
+
+  pub told_leading : get_or l 0 0 ≡ 0x30 → 1 < length l → below (bound + 1) (decimal_of bound l) ≡ None
+  told_leading z h = sym (below_no (bound + 1) _ (decimal_leading bound l z h))
+
+  pub told_other : 0 < length l → (get_or l 0 0 ≡ 0x30 → ⊥) → below (bound + 1) (decimal_of bound l) ≡ below (bound + 1) (left_of bound 0 l)
+  told_other h z = ap (below (bound + 1)) (decimal_other bound l h z)
+
+  pub told_single : 0 < length l → length l ≤ 1 → below (bound + 1) (decimal_of bound l) ≡ below (bound + 1) (left_of bound 0 l)
+  told_single h s = ap (below (bound + 1)) (decimal_single bound l h s)
+
+pub ruleset decimal_told = (told_empty, told_leading, told_other, told_single)
+
 -- ---- digit by digit
 
 -- more digits never make a number smaller
@@ -48,17 +64,13 @@ module _ (bound before : ℕ) (l : List ℕ) (i : ℕ) where
   unfolding left_of all_digits value_after pick
   left_end h p = rw (drop_of_length-le l h, le-leb before bound p)
 
-  pub left_on : i < length l → 0x30 ≤ get_or l i 0 → get_or l i 0 ≤ 0x39 → left_of bound before (drop i l) ≡ left_of bound (10 * before + (get_or l i 0 - 0x30)) (drop (i + 1) l)
+  pub left_on : (next : ℕ) → i < length l → 0x30 ≤ get_or l i 0 → get_or l i 0 ≤ 0x39 → next ≡ 10 * before + (get_or l i 0 - 0x30) → left_of bound before (drop i l) ≡ left_of bound next (drop (i + 1) l)
   unfolding left_of all_digits value_after
-  left_on h p q = rw (drop-cons l i 0 h, within_yes 0x30 0x39 (get_or l i 0) p q, add-one i)
+  left_on next h p q e = rw (drop-cons l i 0 h, within_yes 0x30 0x39 (get_or l i 0) p q, add-one i, e)
 
-  pub left_low : i < length l → get_or l i 0 < 0x30 → left_of bound before (drop i l) ≡ bound + 1
+  pub left_none : i < length l → (0x30 ≤ get_or l i 0 → 0x39 < get_or l i 0) → left_of bound before (drop i l) ≡ bound + 1
   unfolding left_of all_digits pick
-  left_low h p = rw (drop-cons l i 0 h, within_low 0x30 0x39 (get_or l i 0) p)
-
-  pub left_high : i < length l → 0x39 < get_or l i 0 → left_of bound before (drop i l) ≡ bound + 1
-  unfolding left_of all_digits pick
-  left_high h p = rw (drop-cons l i 0 h, within_high 0x30 0x39 (get_or l i 0) p)
+  left_none h p = rw (drop-cons l i 0 h, within_no 0x30 0x39 (get_or l i 0) p)
 
   pub left_over : i < length l → bound < 10 * before + (get_or l i 0 - 0x30) → left_of bound before (drop i l) ≡ bound + 1
   unfolding left_of

@@ -1,46 +1,33 @@
 // Decimal numbers without a leading zero.
-ghost use Rattle.std.specs.Prelude.{◌≡◌, ◌<◌, ◌^◌};
+ghost use Rattle.std.specs.Prelude.{◌≡◌, ◌+◌, ◌≤◌};
+ghost use Rattle.words.specs.Choice.{below};
 ghost use Rattle.numerals.specs.Decimal.{decimal_of};
 ghost use Rattle.numerals.specs.LawsDecimal.{left_of};
 
-// The number that a text gives, if it is a decimal up to the bound; bound + 1 if not.
-pub fn read(s: &[u8], bound: u32) -> u64
-    ensures { result ≡ decimal_of bound s.now }
+// The number that a text gives, if it is a decimal up to the bound.
+#[tactic(auto, using(crate::specs::LawsDecimal::decimal_told))]
+pub fn read(s: &[u8], bound: u32) -> Option<u32>
+    ensures { result ≡ below (bound + 1) (decimal_of bound s.now) }
 {
-    let most = bound as u64;
-    let none = most + 1;
-    if s.len() == 0 {
-        return none;
+    if s.is_empty() || (1 < s.len() && s[0] == b'0') {
+        return None;
     }
-    if s[0] == b'0' {
-        if 1 < s.len() {
-            return none;
-        }
-        return read_digits(s, most);
-    }
-    read_digits(s, most)
+    read_digits(s, bound)
 }
 
 // The digits of a text, as far as they do not pass the bound.
-fn read_digits(s: &[u8], most: u64) -> u64
-    requires { most < 2 ^ 32 }
-    ensures { result ≡ left_of most 0 s.now }
+fn read_digits(s: &[u8], bound: u32) -> Option<u32>
+    ensures { result ≡ below (bound + 1) (left_of bound 0 s.now) }
 {
     let mut value: u64 = 0;
-    let mut i = 0;
-    while i < s.len() {
-        let c = s[i];
-        if c < b'0' {
-            return most + 1;
+    for c in s {
+        if !c.is_ascii_digit() {
+            return None;
         }
-        if b'9' < c {
-            return most + 1;
+        value = 10 * value + u64::from(*c - b'0');
+        if u64::from(bound) < value {
+            return None;
         }
-        value = 10 * value + ((c - b'0') as u64);
-        if most < value {
-            return most + 1;
-        }
-        i += 1;
     }
-    value
+    Some(value as u32)
 }

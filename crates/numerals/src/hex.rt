@@ -1,124 +1,91 @@
-// Hex digits, read from text and put into it. A place where the digits do not stand answers one past the largest number.
-ghost use Rattle.std.specs.Prelude.{◌≡◌, ◌≤◌, ◌<◌, set};
+// Hex digits, read from text and put into it.
+ghost use Rattle.std.specs.Prelude.{◌≡◌, ◌<◌, set};
 ghost use Rattle.std.proofs.lemmas.List.Edits.{sets};
+ghost use Rattle.words.specs.Choice.{below};
 ghost use Rattle.words.specs.Lists.{build};
-ghost use Rattle.numerals.specs.Hex.{within, digit_of, capital_of, byte_by, word_by, joined, digit_text, byte_text, word_text};
+ghost use Rattle.numerals.specs.Hex.{digit_of, capital_of, digit_by, byte_by, word_by, digit_text, byte_text, word_text};
 
-// The value of a hex digit of either case; 16 for any other character.
-pub fn digit(c: u8) -> u8
-    ensures { result ≡ digit_of c }
+// The value of a hex digit of either case.
+#[tactic(auto, using(crate::specs::LawsHex::digit_told))]
+pub fn digit(c: u8) -> Option<u8>
+    ensures { result ≡ below 16 (digit_of c) }
 {
-    if within(b'0', b'9', c) {
-        return c - b'0';
+    match c {
+        b'0'..=b'9' => Some(c - b'0'),
+        b'A'..=b'F' => Some(c - b'A' + 10),
+        b'a'..=b'f' => Some(c - b'a' + 10),
+        _ => None,
     }
-    if within(b'A', b'F', c) {
-        return c - b'A' + 10;
-    }
-    if within(b'a', b'f', c) {
-        return c - b'a' + 10;
-    }
-    16
-}
-
-// Whether c is one of the characters from a to b.
-fn within(a: u8, b: u8, c: u8) -> bool
-    ensures { result ≡ within a b c }
-{
-    if a <= c { c <= b } else { false }
 }
 
 // The value of every character as a hex digit of either case, 16 for those that are none: a table to look many up in.
 pub fn digits() -> [u8; 256]
     ensures { result ≡ build 256 digit_of }
 {
-    let mut table = [0u8; 256];
-    let mut i: usize = 0;
-    while i < 256 {
-        table[i] = digit(i as u8);
-        i += 1;
+    let mut table = [16u8; 256];
+    for (c, value) in table.iter_mut().enumerate() {
+        *value = digit(c as u8).unwrap_or(16);
     }
     table
 }
 
-// The value of a digit 0-9 or A-F; 16 for any other character.
-pub fn capital(c: u8) -> u8
-    ensures { result ≡ capital_of c }
+// The value of a digit 0-9 or A-F.
+#[tactic(auto, using(crate::specs::LawsHex::capital_told))]
+pub fn capital(c: u8) -> Option<u8>
+    ensures { result ≡ below 16 (capital_of c) }
 {
-    if c < b'a' { digit(c) } else { 16 }
+    if c < b'a' { digit(c) } else { None }
 }
 
-// The two digits at a place, of either case; 256 where they do not stand there.
-pub fn byte(s: &[u8], at: usize) -> u16
-    ensures { result ≡ byte_by digit_of s.now at }
+// The two digits at a place, of either case.
+pub fn byte(s: &[u8], at: usize) -> Option<u8>
+    ensures { result ≡ below 256 (byte_by digit_of s.now at) }
 {
-    if at < s.len() {
-        if at + 1 < s.len() {
-            return join_digits(digit(s[at]), digit(s[at + 1]));
-        }
-    }
-    256
+    byte_by::<false>(s, at)
 }
 
-// The four digits at a place, of either case; 65,536 where they do not stand there.
-pub fn word(s: &[u8], at: usize) -> u32
-    ensures { result ≡ word_by digit_of s.now at }
+// The four digits at a place, of either case.
+pub fn word(s: &[u8], at: usize) -> Option<u16>
+    ensures { result ≡ below 65536 (word_by digit_of s.now at) }
 {
-    if at < s.len() {
-        if s.len() - at < 4 {
-            return 65536;
-        }
-        return join_bytes(byte(s, at), byte(s, at + 2));
-    }
-    65536
+    word_by::<false>(s, at)
 }
 
-// The two capital digits at a place; 256 where they do not stand there.
-pub fn capital_byte(s: &[u8], at: usize) -> u16
-    ensures { result ≡ byte_by capital_of s.now at }
+// The two capital digits at a place.
+pub fn capital_byte(s: &[u8], at: usize) -> Option<u8>
+    ensures { result ≡ below 256 (byte_by capital_of s.now at) }
 {
-    if at < s.len() {
-        if at + 1 < s.len() {
-            return join_digits(capital(s[at]), capital(s[at + 1]));
-        }
-    }
-    256
+    byte_by::<true>(s, at)
 }
 
-// The four capital digits at a place; 65,536 where they do not stand there.
-pub fn capital_word(s: &[u8], at: usize) -> u32
-    ensures { result ≡ word_by capital_of s.now at }
+// The four capital digits at a place.
+pub fn capital_word(s: &[u8], at: usize) -> Option<u16>
+    ensures { result ≡ below 65536 (word_by capital_of s.now at) }
 {
-    if at < s.len() {
-        if s.len() - at < 4 {
-            return 65536;
-        }
-        return join_bytes(capital_byte(s, at), capital_byte(s, at + 2));
-    }
-    65536
+    word_by::<true>(s, at)
 }
 
-fn join_digits(high: u8, low: u8) -> u16
-    ensures { result ≡ joined 16 high low }
+// A digit by one of the two readings.
+fn digit_by<const CAPITAL: bool>(c: u8) -> Option<u8>
+    ensures { result ≡ below 16 (digit_by CAPITAL c) }
 {
-    if high < 16 {
-        if low < 16 {
-            return 16 * (high as u16) + (low as u16);
-        }
-        return 256;
-    }
-    256
+    if CAPITAL { capital(c) } else { digit(c) }
 }
 
-fn join_bytes(high: u16, low: u16) -> u32
-    ensures { result ≡ joined 256 high low }
+fn byte_by<const CAPITAL: bool>(s: &[u8], at: usize) -> Option<u8>
+    ensures { result ≡ below 256 (byte_by (digit_by CAPITAL) s.now at) }
 {
-    if high < 256 {
-        if low < 256 {
-            return 256 * (high as u32) + (low as u32);
-        }
-        return 65536;
-    }
-    65536
+    let high = digit_by::<CAPITAL>(*s.get(at)?)?;
+    let low = digit_by::<CAPITAL>(*s.get(at + 1)?)?;
+    Some(16 * high + low)
+}
+
+fn word_by<const CAPITAL: bool>(s: &[u8], at: usize) -> Option<u16>
+    ensures { result ≡ below 65536 (word_by (digit_by CAPITAL) s.now at) }
+{
+    let high = byte_by::<CAPITAL>(s, at)?;
+    let low = byte_by::<CAPITAL>(s, at + 2)?;
+    Some(u16::from_be_bytes([high, low]))
 }
 
 // Puts the two capital digits of a byte at a place, each only if it is within the text.
@@ -135,11 +102,10 @@ pub fn put_byte(out: &mut [u8], at: usize, b: u8)
 pub fn put_word(out: &mut [u8], at: usize, w: u16)
     ensures { out.new ≡ sets out.old at (word_text w) }
 {
-    put_byte(out, at, (w / 256) as u8);
+    let [high, low] = w.to_be_bytes();
+    put_byte(out, at, high);
     if at < out.len() {
-        if 2 <= out.len() - at {
-            put_byte(out, at + 2, (w % 256) as u8);
-        }
+        put_byte(out, at + 2, low);
     }
 }
 

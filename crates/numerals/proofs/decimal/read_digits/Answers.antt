@@ -1,29 +1,21 @@
 -- What is left to read, digit by digit.
-use mathlib.Core.Path.{refl, sym, ◌∙◌}
-use native.Mathlib.Omega.{arith}
-use borrow.Author.Rules.{rules}
-use Rattle.numerals.specs.LawsDecimal.{left_end, left_on, left_low, left_high, left_over}
+use Rattle.std.proofs.Common.{arith, refl, sym, ◌∙◌}
+use Rattle.std.proofs.lemmas.Bool.Decides.{nat_tests}
+use Rattle.numerals.specs.LawsHex.{below_no, below_is}
+use Rattle.numerals.specs.LawsDecimal.{left_end, left_on, left_none, left_over}
 use Rattle.numerals.proofs.decimal.read_digits.Goals as goal
 
-pub loop-i-init : goal.loop-i-init
-loop-i-init c = (search rules, search rules, refl)
+pub loop-c-init : goal.loop-c-init
+loop-c-init c = (omega arith, refl)
 
-pub returns-then-c-lt48 : goal.returns-then-c-lt48
-returns-then-c-lt48 c = sym (c.loop-i.invariant.2 ∙ left_low _ _ _ _ c.loop-i-test.true c.if-c-lt48.true)
+pub returns-then-not-is_ascii_digit : goal.returns-then-not-is_ascii_digit
+returns-then-not-is_ascii_digit c = below_no _ _ (c.loop-c.invariant.1 ∙ left_none _ _ _ _ c.loop-c-test.true (grind (arith, nat_tests)))
 
-pub returns-then-c-gt57 : goal.returns-then-c-gt57
-returns-then-c-gt57 c = sym (c.loop-i.invariant.2 ∙ left_high _ _ _ _ c.loop-i-test.true c.if-c-gt57.true)
+pub returns-then-from-value : goal.returns-then-from-value
+returns-then-from-value c = below_no _ _ (c.loop-c.invariant.1 ∙ left_over _ _ _ _ c.loop-c-test.true (omega arith))
 
-pub returns-then-most-value : goal.returns-then-most-value
-returns-then-most-value c = sym (c.loop-i.invariant.2 ∙ left_over _ _ _ _ c.loop-i-test.true c.if-most-value.true)
-
-pub loop-i-preserved : goal.loop-i-preserved
-loop-i-preserved c = (
-  omega arith,
-  omega arith,
-  c.loop-i.invariant.2 ∙ left_on _ _ _ _ c.loop-i-test.true
-      c.if-c-lt48.false c.if-c-gt57.false,
-)
+pub loop-c-preserved : goal.loop-c-preserved
+loop-c-preserved c = (omega arith, c.loop-c.invariant.1 ∙ left_on _ _ _ _ _ c.loop-c-test.true (grind (arith, nat_tests)) (grind (arith, nat_tests)) (omega arith))
 
 pub returns : goal.returns
-returns c = sym (c.loop-i.invariant.2 ∙ left_end _ _ _ _ c.loop-i-test.false c.loop-i.invariant.1)
+returns c = below_is _ _ _ (sym (c.loop-c.invariant.1 ∙ left_end _ _ _ _ c.loop-c-test.false c.loop-c.invariant.0)) (omega arith)

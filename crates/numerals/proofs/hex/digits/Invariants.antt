@@ -1,12 +1,7 @@
--- Each place below i has the value of its character.
-use Prim.Native.Nat.{◌-◌, ◌≤◌}
-use mathlib.Core.Path.{◌≡◌}
-use Rattle.words.specs.Lists.{overlay}
+-- Each place below c has the value of its character.
+use Rattle.std.proofs.Common.{◌≡◌, ℕ, ◌<◌, get_or}
 use Rattle.numerals.specs.Hex.{digit_of}
 use Rattle.numerals.proofs.hex.digits.Given as goal
 
-abbrev pub invariant-loop-i : goal.invariant-loop-i
-invariant-loop-i l = (l.i ≤ 256) × (l.table ≡ overlay 0 l.i digit_of l.initial.table)
-
-abbrev pub decreases-loop-i : goal.decreases-loop-i
-decreases-loop-i l = 256 - l.i
+abbrev pub invariant-loop-c : goal.invariant-loop-c
+invariant-loop-c l = (k : ℕ) → k < l.c → get_or l.value-items k 0 ≡ digit_of k
