@@ -1,5 +1,7 @@
 -- For each public call: two results that its promise allows are equal.
-use mathlib.Core.Path.{◌≡◌}
+use Rattle.std.specs.Prelude.{◌≡◌}
+use Rattle.std.proofs.Common.{sym, ◌∙◌, refl}
+use Rattle.refusal.specs.LawsRefusal.{number_in_unique}
 use Rattle.words.specs.LawsPromise.{determined}
 use Rattle.device.proofs.record.judge.Reads as judge
 use Rattle.device.proofs.record.fits.Reads as fits
@@ -10,7 +12,7 @@ use Rattle.device.proofs.image.is_image.Reads as is_image
 use Rattle.device.proofs.memory.is_protected.Reads as is_protected
 
 pub judge_determined : (κs : _) (a : _) (r s : _) (x y : _) → judge.Post κs a r x → judge.Post κs a s y → r ≡ s
-judge_determined κs a r s x y p q = determined p q
+judge_determined κs a r s x y p q = number_in_unique (λ u v. refl) r s (p ∙ sym q)
 
 pub fits_determined : (κs : _) (a : _) (r s : _) (x y : _) → fits.Post κs a r x → fits.Post κs a s y → r ≡ s
 fits_determined κs a r s x y p q = determined p q

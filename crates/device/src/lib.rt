@@ -4,13 +4,15 @@
 mod image;
 mod memory;
 mod record;
+mod sound;
 
 pub use image::is_image;
 pub use memory::{is_protected, is_reading, programmable, under_mask};
 pub use record::{fits, judge};
+pub use sound::Sound;
 
 // A device: its ID word, program words P, row words R, the masks of the two configuration words, and the mask of the ID. Its name is the table's.
-#[derive(Clone, Copy)]
+#[derive(Clone, Copy, Debug, PartialEq, Eq)]
 pub struct Device {
     pub id: u16,
     pub words: u16,

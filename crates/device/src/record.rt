@@ -1,70 +1,58 @@
 // The rules of a device record, and the ID words that fit it.
 ghost use Rattle.std.specs.Prelude.{◌≡◌, ◌<◌};
-ghost use Rattle.device.specs.Record.{most_words, row_ok, words_up_to, fits, record_number};
+ghost use Rattle.refusal.specs.Refusal.{number_in};
+ghost use Rattle.device.specs.Record.{most_words, row_ok, words_up_to, fits, device_ok, record_number};
 
 use crate::{Device, MOST_WORDS};
+use refusal::Refusal;
 use words::WORD_LIMIT;
 
-// 0, or 13 for a record that breaks the rules.
-pub fn judge(d: Device) -> u8
-    ensures { result ≡ record_number d }
+// Refuses a record that breaks the rules.
+#[tactic(auto, unfolding(crate::specs::Record::record_number, words::specs::Choice::pick))]
+pub fn judge(d: Device) -> Result<(), Refusal>
+    ensures { number_in result ≡ record_number d }
 {
-    if row_ok(d.row) {} else {
-        return 13;
+    if keeps_rules(d) {
+        Ok(())
+    } else {
+        Err(Refusal::DeviceRecord)
     }
-    if words_ok(d.words, d.row) {} else {
-        return 13;
-    }
-    if WORD_LIMIT <= d.id {
-        return 13;
-    }
-    if WORD_LIMIT <= d.mask1 {
-        return 13;
-    }
-    if WORD_LIMIT <= d.mask2 {
-        return 13;
-    }
-    if WORD_LIMIT <= d.idmask {
-        return 13;
-    }
-    if d.mask1 / 128 % 2 != 1 {
-        return 13;
-    }
-    0
 }
 
+// Whether a record keeps the rules.
+#[tactic(auto, using(words::specs::LawsChoice::tests), unfolding(crate::specs::Record::device_ok, crate::specs::Record::device_up_to, words::specs::Word::is_word, words::specs::Word::bit))]
+fn keeps_rules(d: Device) -> bool
+    ensures { result ≡ device_ok d }
+{
+    row_ok(d.row)
+        && words_ok(d.words, d.row)
+        && d.id < WORD_LIMIT
+        && d.mask1 < WORD_LIMIT
+        && d.mask2 < WORD_LIMIT
+        && d.idmask < WORD_LIMIT
+        && d.mask1 / 128 % 2 == 1
+}
+
+#[tactic(auto, using(words::specs::LawsChoice::tests), unfolding(crate::specs::Record::row_ok))]
 fn row_ok(row: u16) -> bool
     ensures { result ≡ row_ok row }
 {
-    if row == 8 {
-        return true;
-    }
-    if row == 16 {
-        return true;
-    }
-    row == 32
+    row == 8 || row == 16 || row == 32
 }
 
+#[tactic(auto, using(words::specs::LawsChoice::tests), unfolding(crate::specs::Record::words_up_to))]
 fn words_ok(words: u16, row: u16) -> bool
     requires { 0 < row }
     ensures { result ≡ words_up_to most_words words row }
 {
-    if words % row != 0 {
-        return false;
-    }
-    if words < row {
-        return false;
-    }
-    words <= MOST_WORDS
+    words % row == 0 && row <= words && words <= MOST_WORDS
 }
 
 // Whether a word fits the device: it equals the ID in every bit of the mask.
+#[tactic(auto, using(words::specs::LawsChoice::tests), unfolding(crate::specs::Record::fits, words::specs::Word::is_word))]
 pub fn fits(d: Device, w: u16) -> bool
     ensures { result ≡ fits d w }
 {
-    if WORD_LIMIT <= w {
-        return false;
-    }
     let mask = d.idmask;
-    w & mask == d.id & mask
+    w < WORD_LIMIT && w & mask == d.id & mask
 }

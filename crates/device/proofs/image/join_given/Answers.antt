@@ -1,13 +1,9 @@
 -- The bits of the entries passed are joined.
-use native.Mathlib.Omega.{arith}
-use Rattle.words.specs.LawsJoined.{joined_none, joined_more, joined_end}
+use Rattle.words.specs.LawsJoined.{joined_none, joined_more}
 use Rattle.device.proofs.image.join_given.Goals as goal
 
-pub loop-i-init : goal.loop-i-init
-loop-i-init c = (omega arith, joined_none _)
+pub loop-entry-init : goal.loop-entry-init
+loop-entry-init c = joined_none _
 
-pub loop-i-preserved : goal.loop-i-preserved
-loop-i-preserved c = (omega arith, joined_more _ _ _ c.loop-i.invariant.1 _ c.given_bits-all.ensures)
-
-pub returns : goal.returns
-returns c = joined_end _ _ _ _ c.loop-i.invariant.1 (omega arith)
+pub loop-entry-preserved : goal.loop-entry-preserved
+loop-entry-preserved c = joined_more _ _ _ c.loop-entry.invariant _ c.given_bits-all.ensures
