@@ -1,9 +1,9 @@
 -- Laws of counting: what the definition means, the first place that is counted, and one turn of a loop that carries both along.
 use Prim.Native.Nat.{ℕ, zero, suc, ◌+◌, ◌≤◌, ◌<◌}
 use native.Mathlib.Nat.{not-suc-le-zero, le_of_suc-le-suc, eq-or-lt_of_le}
-use Rattle.std.proofs.Common.{add-one, sym, ◌∙◌, ⊎_elim}
+use Rattle.std.proofs.Common.{add-one, add-zero, sym, ◌∙◌, ⊎_elim}
 use native.Mathlib.Omega.{arith}
-use Rattle.std.proofs.Math.Decide.{dec_lt, ℕ_discrete}
+use Rattle.std.proofs.Math.Decide.{dec_lt}
 use Rattle.std.proofs.Math.Path.{◌≡◌, refl, ap}
 use Rattle.std.specs.Prelude.{◌⊎◌, Bool, true, false}
 use Rattle.words.specs.Choice.{pick}
@@ -11,6 +11,9 @@ use Rattle.words.specs.First.{first_to}
 use Rattle.words.specs.LawsChoice.{pick_true, pick_false, decided, true_not_false}
 use Rattle.words.specs.LawsFirst.{first, first_stays, first_here}
 use Rattle.judge.specs.Count.{count_to}
+use Rattle.judge.specs.declared.verdicts.Differences.{Differences}
+use Rattle.std.specs.Option.{unwrap_or}
+use Rattle.std.specs.Prelude.{Option, Some, None}
 
 -- ---- one place more
 
@@ -82,85 +85,38 @@ module _ (f g : ℕ → Bool) where
 
 -- ---- a loop that carries both along
 
--- so many of the places below n hold, and the first of them if there is one
-pub record Found (n : ℕ) (f : ℕ → Bool) (count place : ℕ) : Type 0 where
-  pub counted : count ≡ count_to n f
-  pub placed : 0 < count → place ≡ first_to n f
+-- what is found of so many places: nothing holds, or so many do and the first is there
+abbrev pub Seen : (n : ℕ) (f : ℕ → Bool) → Option Differences → Type 0
+Seen n f None = count_to n f ≡ 0
+Seen n f (Some d) = (0 < d.count) × (d.count ≡ count_to n f) × (d.first ≡ first_to n f)
 
--- one place more
-pub record Noted (count place i : ℕ) (other : Bool) (count' place' : ℕ) : Type 0 where
-  pub counted : count' ≡ count + pick other 1 0
-  pub kept : 0 < count → place' ≡ place
-  pub opened : count ≡ 0 → other ≡ true → place' ≡ i
+-- one place more, which is n
+module _ (n : ℕ) (f : ℕ → Bool) (i : ℕ) (is : i ≡ n) where
+  pub seen_yes : f i ≡ true → (found : Option Differences) → Seen n f found → (seen : Differences) → seen ≡ unwrap_or found (record { first = i; count = 0 }) → Seen (n + 1) f (Some (record seen { count = seen.count + 1 }))
+  seen_yes t None s seen e =
+      let here : f n ≡ true = rw is at t in
+      rw (add-one n, e, is) (omega arith, sym (count_yes n f here ∙ ap (λ k. k + 1) s), sym (first_here n f (omega (arith, first_none n f s)) here))
+  seen_yes t (Some d) s seen e =
+      let here : f n ≡ true = rw is at t in
+      rw (add-one n, e) (omega arith, ap (λ k. k + 1) s.1 ∙ sym (count_yes n f here), s.2 ∙ sym (first_stays n f (first_counted n f (rw s.1 at s.0))))
 
-module _ (count place i : ℕ) (other : Bool) where
-  pub noted_new : other ≡ true → count ≡ 0 → Noted count place i other 1 i
-  noted_new t z =
-      record {
-        counted = sym (ap (λ k. count + k) (pick_true other 1 0 t) ∙ omega arith);
-        kept = λ h. absurd (omega arith);
-        opened = λ e u. refl;
-      }
+  pub seen_no : f i ≡ false → (found : Option Differences) → Seen n f found → Seen (n + 1) f found
+  seen_no t None s =
+      let here : f n ≡ false = rw is at t in
+      rw (add-one n, count_no n f here) s
+  seen_no t (Some d) s =
+      let here : f n ≡ false = rw is at t in
+      rw (add-one n, count_no n f here, first_stays n f (first_counted n f (rw s.1 at s.0))) s
 
-  pub noted_again : other ≡ true → (count ≡ 0 → ⊥) → Noted count place i other (count + 1) place
-  noted_again t n =
-      record {
-        counted = sym (ap (λ k. count + k) (pick_true other 1 0 t));
-        kept = λ h. refl;
-        opened = λ e u. absurd (n e);
-      }
+module _ (n : ℕ) (f : ℕ → Bool) where
+  -- so many are no more than the places
+  pub seen_few : (found : Option Differences) → Seen n f found → (seen : Differences) (i : ℕ) → seen ≡ unwrap_or found (record { first = i; count = 0 }) → seen.count ≤ n
+  seen_few None s seen i e = rw e (omega arith)
+  seen_few (Some d) s seen i e = rw (e, s.1) (count_le n f)
 
-  pub noted_same : other ≡ false → Noted count place i other count place
-  noted_same f =
-      record {
-        counted = sym (ap (λ k. count + k) (pick_false other 1 0 f) ∙ omega arith);
-        kept = λ h. refl;
-        opened = λ e u. absurd (true_not_false u f);
-      }
-
-pub found_none : (f : ℕ → Bool) (place : ℕ) → Found 0 f 0 place
-found_none f place = record { counted = unfold count_to in refl; placed = λ h. absurd (not-suc-le-zero h) }
-
-pub found_le : (n : ℕ) (f : ℕ → Bool) (count place : ℕ) → Found n f count place → count ≤ n
-found_le n f count place r = rw r.counted (count_le n f)
-
-pub found_end : (i n : ℕ) (f : ℕ → Bool) (count place : ℕ) → Found i f count place → i ≡ n → Found n f count place
-found_end i n f count place r e = rw e at r
-
--- the place of a test that held is one of the places
-pub found_within : (n : ℕ) (f : ℕ → Bool) (count place : ℕ) → Found n f count place → 0 < count → place < n
-found_within n f count place r h =
-    let c : count ≡ count_to n f = r.counted in
-    let p : place ≡ first_to n f = r.placed h in
-    let l : first_to n f < n = first_counted n f (omega arith) in
-    omega arith
-
--- one turn of the loop
-module _ (n : ℕ) (f : ℕ → Bool) (count place : ℕ) (r : Found n f count place) (other : Bool) (e : other ≡ f n) (count' place' : ℕ) (s : Noted count place n other count' place') where
-  before : 0 < count → place' ≡ first_to (suc n) f
-  before h = s.kept h ∙ (r.placed h ∙ sym (first_stays n f (first_counted n f (rw r.counted at h))))
-
-  more_no : other ≡ false → Found (suc n) f count' place'
-  more_no t =
-      let same : count' ≡ count = s.counted ∙ (ap (λ k. count + k) (pick_false other 1 0 t) ∙ omega arith) in
-      record {
-        counted = same ∙ (r.counted ∙ sym (count_no n f (sym e ∙ t)));
-        placed = λ h. before (rw same at h);
-      }
-
-  more_yes : other ≡ true → Dec (count ≡ 0) → Found (suc n) f count' place'
-  more_yes t d =
-      let next : count' ≡ count + 1 = s.counted ∙ ap (λ k. count + k) (pick_true other 1 0 t) in
-      record {
-        counted = next ∙ (ap (λ k. k + 1) r.counted ∙ sym (count_yes n f (sym e ∙ t)));
-        placed = λ h. at_last d;
-      }
-    where
-      at_last : Dec (count ≡ 0) → place' ≡ first_to (suc n) f
-      at_last (yes z) =
-          let none : first_to n f ≡ n = first_none n f (sym r.counted ∙ z) in
-          s.opened z t ∙ sym (first_here n f (omega arith) (sym e ∙ t))
-      at_last (no z) = before (native.Mathlib.Nat.pos_of_ne-zero z)
-
-  pub found_more : Found (n + 1) f count' place'
-  found_more = rw add-one (⊎_elim (λ t. more_yes t (ℕ_discrete count 0)) more_no (decided other))
+-- several places more at which the test fails
+pub seen_over : (f : ℕ → Bool) (from n : ℕ) → ((k : ℕ) → from ≤ k → k < from + n → f k ≡ false) → (found : Option Differences) → Seen from f found → Seen (from + n) f found
+seen_over f from zero h found s = rw add-zero s
+seen_over f from (suc n) h found s =
+    let more : from + n + 1 ≡ from + suc n = omega arith in
+    rw more at (seen_no (from + n) f (from + n) refl (h (from + n) (omega arith) (omega arith)) found (seen_over f from n (λ k p q. h k p (omega arith)) found s))

@@ -1,72 +1,43 @@
--- Laws of passing words that are the same, a few at a time: none of them differs, so that nothing is counted there.
-use Rattle.std.specs.Prelude.{ℕ, zero, suc, ◌+◌, ◌-◌, ◌≤◌, ◌<◌, ◌≡◌, refl, Bool, false, List, length, get_or}
-use Rattle.std.proofs.Common.{arith, sym}
-use Rattle.std.specs.Int.Bits.{bit_or}
-use Rattle.words.specs.LawsTests.{by_lt, by_eq}
-use Rattle.words.specs.LawsJoined.{or_none}
+-- Laws of stretches in which two readings have the same words: no entry differs there, so that nothing is counted.
+use Rattle.std.specs.Prelude.{ℕ, zero, suc, ◌+◌, ◌-◌, ◌*◌, ◌≤◌, ◌<◌, ◌≡◌, List, [], take, drop, get_or, Option, false, not}
+use Rattle.std.proofs.Common.{not-suc-le-zero, suc-mul, add_comm, arith, sym, ap, ◌∙◌}
+use Rattle.std.proofs.lemmas.List.{get_or-take, get_or-drop, drop-drop}
+use Rattle.std.specs.Str.{bytes_eq}
+use Rattle.std.proofs.lemmas.Slice.Eq.{bytes_eq-Decides}
+use borrow.Author.Tests.{not-false}
+use Rattle.std.specs.Simd.{first_chunks}
 use Rattle.device.specs.declared.Device.{Device}
-use Rattle.judge.specs.LawsCount.{Found, noted_same, found_more, found_end}
+use Rattle.judge.specs.declared.verdicts.Differences.{Differences}
+use Rattle.judge.specs.LawsCount.{Seen, seen_over}
 use Rattle.judge.specs.LawsVerify.{differs_equal}
 use Rattle.judge.specs.Verify.{entry_differs}
 
--- four words are the same
-pub record Four (wanted reading : List ℕ) (i : ℕ) : Type 0 where
-  pub first : get_or wanted i 0 ≡ get_or reading i 0
-  pub second : get_or wanted (i + 1) 0 ≡ get_or reading (i + 1) 0
-  pub third : get_or wanted (i + 2) 0 ≡ get_or reading (i + 2) 0
-  pub fourth : get_or wanted (i + 3) 0 ≡ get_or reading (i + 3) 0
+-- stretch i of a list
+stretch_at : (n k : ℕ) (l : List ℕ) (i : ℕ) → i < k → get_or (first_chunks n k l) i [] ≡ take n (drop (i * n) l)
+stretch_at n zero l i h = absurd (not-suc-le-zero h)
+stretch_at n (suc k) l zero h =
+    let none : 0 * n ≡ 0 = omega arith in
+    rw none
+stretch_at n (suc k) l (suc i) h =
+    let more : n + i * n ≡ suc i * n = sym (suc-mul i n ∙ add_comm (i * n) n) in
+    stretch_at n k (drop n l) i (omega arith) ∙ (ap (take n) (drop-drop (i * n) n l) ∙ ap (λ j. take n (drop j l)) more)
 
--- the words from one place to another are the same, and an entry is left
-pub record Same (wanted reading : List ℕ) (from i : ℕ) : Type 0 where
-  pub onward : from ≤ i
-  pub left : i < length reading
-  pub each : (k : ℕ) → from ≤ k → k < i → get_or wanted k 0 ≡ get_or reading k 0
+word_at : (n k : ℕ) (l : List ℕ) (i j : ℕ) → i < k → j < n → get_or (get_or (first_chunks n k l) i []) j 0 ≡ get_or l (i * n + j) 0
+word_at n k l i j h p = rw (stretch_at n k l i h, get_or-take n (drop (i * n) l) j 0 p) (get_or-drop (i * n) l j 0)
 
-module _ (wanted reading : List ℕ) where
-  pub four_same : (i a b c d : ℕ) → (a ≡ 0 → get_or wanted i 0 ≡ get_or reading i 0) → (b ≡ 0 → get_or wanted (i + 1) 0 ≡ get_or reading (i + 1) 0)
-      → (c ≡ 0 → get_or wanted (i + 2) 0 ≡ get_or reading (i + 2) 0) → (d ≡ 0 → get_or wanted (i + 3) 0 ≡ get_or reading (i + 3) 0) → bit_or (bit_or (bit_or a b) c) d ≡ 0
-      → Four wanted reading i
-  four_same i a b c d p q r s e =
-      let x = or_none (bit_or (bit_or a b) c) d e in
-      let y = or_none (bit_or a b) c x.0 in
-      let z = or_none a b y.0 in
-      record { first = p z.0; second = q z.1; third = r y.1; fourth = s x.1 }
+-- two arrays that the code finds equal
+module _ (d : Device) (wanted reading : List ℕ) (n k m i : ℕ) (p : i < k) (q : i < m) (ws rs : List (List ℕ)) (w : ws ≡ first_chunks n k wanted) (r : rs ≡ first_chunks n m reading)
+    (found_equal : false ≡ not (bytes_eq (get_or ws i []) (get_or rs i []))) where
+  same : get_or (first_chunks n k wanted) i [] ≡ get_or (first_chunks n m reading) i []
+  same =
+      ap (λ l. get_or l i []) (sym w)
+      ∙ ((bytes_eq-Decides (get_or ws i []) (get_or rs i [])).0 (not-false (bytes_eq (get_or ws i []) (get_or rs i [])) (sym found_equal))
+      ∙ ap (λ l. get_or l i []) r)
 
-  four_at : (i k : ℕ) → Four wanted reading i → i ≤ k → k < i + 4 → get_or wanted k 0 ≡ get_or reading k 0
-  four_at i k f p q =
-      by_eq k i (λ e. rw e f.first)
-      (λ m. by_eq k (i + 1) (λ e. rw e f.second)
-      (λ n. by_eq k (i + 2) (λ e. rw e f.third) (λ o. let e : k ≡ i + 3 = omega arith in rw e f.fourth)))
+  each : (j : ℕ) → i * n ≤ j → j < i * n + n → get_or wanted j 0 ≡ get_or reading j 0
+  each j a b =
+      let there : i * n + (j - i * n) ≡ j = omega arith in
+      rw there at (sym (word_at n k wanted i (j - i * n) p (omega arith)) ∙ (ap (λ s. get_or s (j - i * n) 0) same ∙ word_at n m reading i (j - i * n) q (omega arith)))
 
-  module _ (from : ℕ) where
-    pub same_none : from < length reading → Same wanted reading from from
-    same_none h = record { onward = omega arith; left = h; each = λ k p q. absurd (omega arith) }
-
-    module _ (i : ℕ) (s : Same wanted reading from i) where
-      pub same_more : 8 < length reading - i → (a b : ℕ) → (a ≡ 0 → Four wanted reading i) → (b ≡ 0 → Four wanted reading (i + 4)) → bit_or a b ≡ 0 → Same wanted reading from (i + 8)
-      same_more h a b f g e =
-          let o = or_none a b e in
-          let l : from ≤ i = s.onward in
-          record {
-            onward = omega arith;
-            left = omega arith;
-            each = λ k p q. by_lt k i (s.each k p)
-                (λ r. by_lt k (i + 4) (four_at i k (f o.0) r) (λ t. four_at (i + 4) k (g o.1) t (omega arith)));
-          }
-
--- ---- what was found before a stretch is what is found after it
-
-found_over : (f : ℕ → Bool) (count place from n : ℕ) → Found from f count place → ((k : ℕ) → from ≤ k → k < from + n → f k ≡ false) → Found (from + n) f count place
-found_over f count place from zero r h = found_end from (from + zero) f count place r (omega arith)
-found_over f count place from (suc n) r h =
-    found_end (from + n + 1) (from + suc n) f count place
-    (found_more (from + n) f count place (found_over f count place from n r (λ k p q. h k p (omega arith))) false
-    (sym (h (from + n) (omega arith) (omega arith))) count place (noted_same count place (from + n) false refl)) (omega arith)
-
-pub found_same : (d : Device) (wanted reading : List ℕ) (count place from i : ℕ) → Found from (entry_differs d wanted reading) count place → Same wanted reading from i
-    → Found i (entry_differs d wanted reading) count place
-found_same d wanted reading count place from i r s =
-    let l : from ≤ i = s.onward in
-    found_end (from + (i - from)) i _ count place
-    (found_over (entry_differs d wanted reading) count place from (i - from) r
-    (λ k p q. differs_equal d wanted reading k (s.each k p (omega arith)))) (omega arith)
+  pub seen_same : (found : Option Differences) → Seen (i * n) (entry_differs d wanted reading) found → Seen (i * n + n) (entry_differs d wanted reading) found
+  seen_same = seen_over (entry_differs d wanted reading) (i * n) n (λ j a b. differs_equal d wanted reading j (each j a b))

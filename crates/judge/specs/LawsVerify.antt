@@ -1,6 +1,6 @@
 -- Laws of verify: which entries are judged and which differ, and the answers case by case.
-use Rattle.std.specs.Prelude.{ℕ, ◌+◌, ◌≤◌, ◌<◌, ◌≡◌, Bool, ◌&&◌, List, eqb, get_or}
-use Rattle.std.proofs.Common.{pos_of_ne-zero, arith, sym, ap, ◌∙◌}
+use Rattle.std.specs.Prelude.{Some, None, ℕ, ◌+◌, ◌≤◌, ◌<◌, ◌≡◌, Bool, ◌&&◌, List, eqb, get_or}
+use Rattle.std.proofs.Common.{arith, sym, ap, ◌∙◌}
 use Rattle.std.proofs.Math.Decide.{dec_lt}
 use Rattle.std.proofs.Math.Path.{refl}
 use Rattle.std.proofs.Math.Bool.{true, false, not}
@@ -24,7 +24,8 @@ use Rattle.device.specs.LawsMask.{under_plain}
 use Rattle.device.specs.LawsMemory.{programmable_low, programmable_never, programmable_config}
 use Rattle.judge.specs.declared.Verdict.{Verdict}
 use Rattle.judge.specs.Count.{count_to}
-use Rattle.judge.specs.LawsCount.{Found}
+use Rattle.judge.specs.declared.verdicts.Differences.{Differences}
+use Rattle.judge.specs.LawsCount.{Seen, first_counted}
 use Rattle.judge.specs.Verify.{judged, word_differs, entry_differs, bare, verdict_of, verified}
 
 -- ---- which entries are judged
@@ -126,19 +127,23 @@ module _ (d : Device) (wanted reading : List ℕ) where
   verdict_40 h = rw (lt-ltb 0 (count_to (d.words + reading_tail) (entry_differs d wanted reading)) h)
 
 -- the same from what the code has found
-module _ (d : Device) (wanted reading : List ℕ) (count place : ℕ) (r : Found (d.words + reading_tail) (entry_differs d wanted reading) count place) where
-  pub found_0 : count ≡ 0 → protected d.words reading ≡ false → bare 0 ≡ verdict_of d wanted reading
-  found_0 z f = sym (verdict_0 d wanted reading (sym r.counted ∙ z) f)
+module _ (d : Device) (wanted reading : List ℕ) where
+  pub found_0 : Seen (d.words + reading_tail) (entry_differs d wanted reading) None → protected d.words reading ≡ false → bare 0 ≡ verdict_of d wanted reading
+  found_0 z f = sym (verdict_0 d wanted reading z f)
 
-  pub found_41 : count ≡ 0 → protected d.words reading ≡ true → bare 41 ≡ verdict_of d wanted reading
-  found_41 z f = sym (verdict_41 d wanted reading (sym r.counted ∙ z) f)
+  pub found_41 : Seen (d.words + reading_tail) (entry_differs d wanted reading) None → protected d.words reading ≡ true → bare 41 ≡ verdict_of d wanted reading
+  found_41 z f = sym (verdict_41 d wanted reading z f)
 
-  pub found_40 : (count ≡ 0 → ⊥) → (a : WordAddress) → a ≡ record { 0 = address_of config_base d.words place }
-      → ◌≡◌ {A = Verdict} (record { number = 40; address = a; count = count }) (verdict_of d wanted reading)
-  found_40 n a e =
-      let some : 0 < count = pos_of_ne-zero n in
-      let there : place ≡ first_to (d.words + reading_tail) (entry_differs d wanted reading) = r.placed some in
-      rw (e, there, r.counted) (sym (verdict_40 d wanted reading (rw r.counted at some)))
+  module _ (e : Differences) (s : Seen (d.words + reading_tail) (entry_differs d wanted reading) (Some e)) where
+    some : 0 < count_to (d.words + reading_tail) (entry_differs d wanted reading)
+    some = rw s.1 at s.0
+
+    pub found_within : e.first < d.words + reading_tail
+    found_within = rw s.2 (first_counted (d.words + reading_tail) (entry_differs d wanted reading) some)
+
+    pub found_40 : (a : WordAddress) → a ≡ record { 0 = address_of config_base d.words e.first }
+        → ◌≡◌ {A = Verdict} (record { number = 40; address = a; count = e.count }) (verdict_of d wanted reading)
+    found_40 a q = rw (q, s.1, s.2) (sym (verdict_40 d wanted reading some))
 
 -- ---- the answer
 

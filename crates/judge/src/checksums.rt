@@ -15,7 +15,7 @@ pub fn checksum(d: Device, reading: &[u16]) -> Sum
     if device::judge(d) != 0 {
         return Sum { number: 13, sum: 0 };
     }
-    if device::is_reading(d.words, reading) {} else {
+    if !device::is_reading(d.words, reading) {
         return Sum { number: 21, sum: 0 };
     }
     Sum {
@@ -41,12 +41,9 @@ fn add_words(words: u16, reading: &[u16]) -> u32
     requires { (words ≤ most_words) × (words ≤ length reading.now) }
     ensures { (result ≡ sum_to words reading.now) × (result ≤ 65535 * words) }
 {
-    let program = words as usize;
-    let mut sum: u32 = 0;
-    let mut i: usize = 0;
-    while i < program {
-        sum += reading[i] as u32;
-        i += 1;
+    let mut sum = 0;
+    for word in &reading[..words as usize] {
+        sum += *word as u32;
     }
     sum
 }

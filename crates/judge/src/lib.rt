@@ -2,7 +2,6 @@
 #![tactic(auto)]
 
 mod checksums;
-mod stretch;
 mod verdicts;
 
 pub use checksums::checksum;

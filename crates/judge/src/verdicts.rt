@@ -1,21 +1,24 @@
 // A reading held against a wanted reading.
-ghost use Rattle.std.specs.Prelude.{◌≡◌, ◌&&◌, ◌+◌, ◌^◌, ◌≤◌, ◌<◌, length};
+ghost use Rattle.std.specs.Prelude.{◌≡◌, ◌&&◌, ◌+◌, ◌≤◌, ◌<◌, length};
 ghost use Rattle.words.specs.Address.{config_base, address_of};
 ghost use Rattle.device.specs.Record.{most_words};
 ghost use Rattle.device.specs.Memory.{reading_tail, mask_at, protected};
 ghost use Rattle.judge.specs.Verify.{judged, word_differs, entry_differs, bare, verdict_of, verified};
-ghost use Rattle.judge.specs.LawsCount.{Found, Noted};
+ghost use Rattle.judge.specs.LawsCount.{Seen};
 
 use crate::Verdict;
-use crate::stretch::pass_same;
 use device::{Device, READING_TAIL};
+use std::ops::Range;
 use words::{CONFIG_BASE, Place, WordAddress};
 
-// How many entries differ so far, and the first of them if there is one.
+// How many words are compared at once: a verify mostly sees words that are the same.
+const STRETCH: usize = 8;
+
+// The first entry that differs, and how many do.
 #[derive(Clone, Copy)]
 struct Differences {
-    count: usize,
     first: usize,
+    count: usize,
 }
 
 // How a reading of the device differs from the wanted one where it is judged; or 13 or 21.
@@ -25,10 +28,7 @@ pub fn verify(d: Device, wanted: &[u16], reading: &[u16]) -> Verdict
     if device::judge(d) != 0 {
         return only(13);
     }
-    if device::is_reading(d.words, wanted) {} else {
-        return only(21);
-    }
-    if device::is_reading(d.words, reading) {} else {
+    if !device::is_reading(d.words, wanted) || !device::is_reading(d.words, reading) {
         return only(21);
     }
     verdict(d, wanted, reading)
@@ -40,49 +40,68 @@ fn verdict(d: Device, wanted: &[u16], reading: &[u16]) -> Verdict
     ensures { result ≡ verdict_of d wanted.now reading.now }
 {
     let hidden = device::is_protected(d.words, reading);
-    let found = compare(d, hidden, wanted, reading);
-    if found.count == 0 {
-        if hidden {
-            return only(41);
-        }
-        return only(0);
-    }
-    Verdict {
-        number: 40,
-        address: address(d.words, found.first),
-        count: found.count,
+    match compare(d, hidden, wanted, reading) {
+        Some(found) => Verdict {
+            number: 40,
+            address: address(d.words, found.first),
+            count: found.count,
+        },
+        None if hidden => only(41),
+        None => only(0),
     }
 }
 
-// Goes over the entries once, and looks one by one only where words differ.
-fn compare(d: Device, hidden: bool, wanted: &[u16], reading: &[u16]) -> Differences
+// Goes over the entries a stretch at a time, and one by one only where a stretch differs.
+fn compare(d: Device, hidden: bool, wanted: &[u16], reading: &[u16]) -> Option<Differences>
     requires { (length wanted.now ≡ d.words + reading_tail) × (length reading.now ≡ d.words + reading_tail) × (hidden ≡ protected d.words reading.now) }
-    ensures { Found (d.words + reading_tail) (entry_differs d wanted.now reading.now) result.count result.first }
+    ensures { Seen (d.words + reading_tail) (entry_differs d wanted.now reading.now) result }
 {
-    let mut found = Differences { count: 0, first: 0 };
-    let mut i: usize = 0;
-    while i < reading.len() {
-        let at = pass_same(wanted, reading, i);
-        let other = differ(d, hidden, at, wanted[at], reading[at]);
-        found = note(found, at, other);
-        i = at + 1;
+    let (wanted_stretches, _) = wanted.as_chunks::<STRETCH>();
+    let (reading_stretches, _) = reading.as_chunks::<STRETCH>();
+    let mut found = None;
+    for (k, stretch) in wanted_stretches.iter().enumerate() {
+        if *stretch != reading_stretches[k] {
+            found = look(
+                d,
+                hidden,
+                found,
+                k * STRETCH..k * STRETCH + STRETCH,
+                wanted,
+                reading,
+            );
+        }
     }
-    found
+    look(
+        d,
+        hidden,
+        found,
+        wanted_stretches.len() * STRETCH..wanted.len(),
+        wanted,
+        reading,
+    )
 }
 
-// One entry more: the first difference is kept.
-fn note(found: Differences, i: usize, other: bool) -> Differences
-    requires { found.count < 2 ^ 32 }
-    ensures { Noted found.count found.first i other result.count result.first }
+// Goes over a range of entries, and takes them into what was found before it.
+fn look(
+    d: Device,
+    hidden: bool,
+    before: Option<Differences>,
+    range: Range<usize>,
+    wanted: &[u16],
+    reading: &[u16],
+) -> Option<Differences>
+    requires { (range.start ≤ range.end) × (range.end ≤ length wanted.now) × (length wanted.now ≡ length reading.now) × (hidden ≡ protected d.words reading.now) × Seen range.start (entry_differs d wanted.now reading.now) before }
+    ensures { Seen range.end (entry_differs d wanted.now reading.now) result }
 {
-    if other {
-        if found.count == 0 {
-            return Differences { count: 1, first: i };
+    let mut found = before;
+    for i in range {
+        if differ(d, hidden, i, wanted[i], reading[i]) {
+            let seen = found.unwrap_or(Differences { first: i, count: 0 });
+            found = Some(Differences {
+                count: seen.count + 1,
+                ..seen
+            });
         }
-        return Differences {
-            count: found.count + 1,
-            first: found.first,
-        };
     }
     found
 }
@@ -91,10 +110,7 @@ fn note(found: Differences, i: usize, other: bool) -> Differences
 fn differ(d: Device, hidden: bool, i: usize, wanted: u16, reading: u16) -> bool
     ensures { result ≡ (judged d.words hidden i && word_differs (mask_at d i) wanted reading) }
 {
-    if word_differs(d, i, wanted, reading) {
-        return is_judged(d.words, hidden, i);
-    }
-    false
+    word_differs(d, i, wanted, reading) && is_judged(d.words, hidden, i)
 }
 
 // Whether two words differ in a bit that their entry has: program words and user IDs have every bit.
@@ -114,8 +130,7 @@ fn word_differs(d: Device, i: usize, wanted: u16, reading: u16) -> bool
 fn is_judged(words: u16, hidden: bool, i: usize) -> bool
     ensures { result ≡ judged words hidden i }
 {
-    let program = words as usize;
-    if i < program {
+    if i < words as usize {
         return !hidden;
     }
     device::programmable(words, i)

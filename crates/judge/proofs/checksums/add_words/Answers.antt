@@ -1,18 +1,13 @@
 -- The words passed are added up.
-use mathlib.Core.Path.{sym}
-use native.Mathlib.Omega.{arith}
-use borrow.Author.Rules.{rules}
-use Rattle.judge.specs.LawsChecksum.{sum_none, sum_on, sum_end}
+use Rattle.std.proofs.Common.{◌<◌, sym, arith}
+use Rattle.std.proofs.lemmas.List.{get_or-take, length-take-le}
+use Rattle.judge.specs.LawsChecksum.{sum_none, sum_on}
 use Rattle.judge.proofs.checksums.add_words.Goals as goal
 
-pub loop-i-init : goal.loop-i-init
-loop-i-init c = (omega arith, search rules, sym (sum_none _), omega arith)
+pub loop-word-init : goal.loop-word-init
+loop-word-init c = (sym (sum_none _), omega arith)
 
-pub overflow_add-sum : goal.overflow_add-sum
-overflow_add-sum c = omega (arith, c.type_inv.reading c.loop-i.i)
-
-pub loop-i-preserved : goal.loop-i-preserved
-loop-i-preserved c = (omega arith, c.loop-i.invariant.1, sum_on _ _ _ c.loop-i.invariant.2, omega (arith, c.type_inv.reading c.loop-i.i))
-
-pub returns : goal.returns
-returns c = (sum_end c.loop-i.i _ _ _ c.loop-i.invariant.2 (omega arith) (omega arith), omega arith)
+pub loop-word-preserved : goal.loop-word-preserved
+loop-word-preserved c =
+    let h : c.loop-word.word-index < c.args.words = omega (arith, length-take-le _ _ c.requires.1) in
+    rw get_or-take (sum_on _ _ _ c.loop-word.invariant.0, omega (arith, c.type_inv.reading c.loop-word.word-index))

@@ -1,12 +1,8 @@
--- The entries passed are counted, and the first that differs is kept.
-use Prim.Native.Nat.{◌-◌, ◌≤◌}
-use lib.ListN.{length}
+-- What is found in the stretches passed.
+use Rattle.std.proofs.Common.{◌*◌}
 use Rattle.judge.specs.Verify.{entry_differs}
-use Rattle.judge.specs.LawsCount.{Found}
+use Rattle.judge.specs.LawsCount.{Seen}
 use Rattle.judge.proofs.verdicts.compare.Given as goal
 
-abbrev pub invariant-loop-i : goal.invariant-loop-i
-invariant-loop-i l = (l.i ≤ length l.reading) × Found l.i (entry_differs l.d l.wanted l.reading) l.found.count l.found.first
-
-abbrev pub decreases-loop-i : goal.decreases-loop-i
-decreases-loop-i l = length l.reading - l.i
+abbrev pub invariant-loop-k : goal.invariant-loop-k
+invariant-loop-k l = Seen (l.k * 8) (entry_differs l.d l.wanted l.reading) l.found

@@ -1,20 +1,16 @@
--- By the count, and by the bit that tells whether the board is protected.
-use mathlib.Core.Path.{sym, ◌∙◌}
-use native.Mathlib.Nat.{pos_of_ne-zero}
-use Rattle.judge.specs.LawsCount.{found_within}
-use Rattle.judge.specs.LawsVerify.{found_0, found_41, found_40}
+-- By what differs, and by the bit that tells whether the board is protected.
+use Rattle.std.proofs.Common.{sym, ◌∙◌}
+use Rattle.judge.specs.LawsVerify.{found_0, found_41, found_40, found_within}
 use Rattle.judge.proofs.verdicts.verdict.Goals as goal
 
-pub returns-then-hidden : goal.returns-then-hidden
-returns-then-hidden c = c.only.ensures ∙ found_41 _ _ _ _ _ c.compare-found.ensures c.if-found-eq0.true
-    (sym c.is_protected-hidden.ensures ∙ c.if-hidden.true)
-
-pub returns-then-found-eq0 : goal.returns-then-found-eq0
-returns-then-found-eq0 c = c.only-then-found-eq0.ensures ∙ found_0 _ _ _ _ _ c.compare-found.ensures c.if-found-eq0.true
-    (sym c.is_protected-hidden.ensures ∙ c.if-hidden.false)
-
 pub address-requires : goal.address-requires
-address-requires c = (c.requires.0, found_within _ _ _ _ c.compare-found.ensures (pos_of_ne-zero c.if-found-eq0.false))
+address-requires c = (c.requires.0, found_within _ _ _ _ c.in-Some.ensures)
 
-pub returns : goal.returns
-returns c = found_40 _ _ _ _ _ c.compare-found.ensures c.if-found-eq0.false _ c.address.ensures
+pub returns-in-Some : goal.returns-in-Some
+returns-in-Some c = found_40 _ _ _ _ c.in-Some.ensures _ c.address.ensures
+
+pub returns-in-None : goal.returns-in-None
+returns-in-None c = c.only.ensures ∙ found_41 _ _ _ c.in-None.ensures (sym c.if-hidden.ensures)
+
+pub returns-in-None-2 : goal.returns-in-None-2
+returns-in-None-2 c = c.only-in-None-2.ensures ∙ found_0 _ _ _ c.in-None.ensures (sym c.if-hidden.ensures)
