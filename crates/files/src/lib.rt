@@ -1,7 +1,7 @@
 // What stands around a program's call: its files are opened and read, and its text is written.
 #![tactic(auto)]
 
-ghost use Rattle.std.specs.Prelude.{◌≡◌, ◌<◌, ◌≤◌, length, take, IfSome, IsNone, IfOk};
+ghost use Rattle.std.specs.Prelude.{◌≡◌, ◌<◌, ◌≤◌, ℕ, length, take, IfSome, IsNone, IfOk};
 ghost use Rattle.std.specs.Counts.{IsPrefixLen};
 ghost use Rattle.std.specs.Io.{ReadsAtMost};
 ghost use Rattle.std.specs.Io.KnownBytes.{Appends};
@@ -12,6 +12,38 @@ use std::fs::Files;
 use std::io::{Read, Write};
 use std::process::ExitCode;
 use std::{fs, io};
+
+// A program: its files are read, as far as there is room for them, and what is printed of them is written. The first two are device.tab
+// and board.txt; a program that names no third one has none, and an empty one stands for it. An argument names another file in place of each.
+pub fn run<R, W, P>(
+    rt: &R,
+    to: &mut W,
+    third: Option<&[u8]>,
+    other: &mut [u8],
+    text: &mut [u8],
+    print: P,
+) -> ExitCode
+where
+    R: Files + Env + Eprint,
+    W: Write,
+    P: FnOnce(&[u8], &[u8], &[u8], &mut [u8]) -> usize,
+    requires { P.IsAlwaysCallable print }
+    ensures { exit_status result ≡ 0 → (table : _) × (sheet : _) × (given : _) × (room : _) × (n : ℕ) × (printed : _)
+        × (P.post print table sheet given room n printed) × (room.now ≡ text.old) × (printed.now ≡ text.new)
+        × (length given.now ≤ length other.old) × (IsNone third.entry → length given.now ≡ 0) × (n ≤ length text.new)
+        × (Appends (W.contents to.old) (W.contents to.new) (take n text.new)) }
+{
+    let mut table = [0u8; 4096];
+    let t = read(open(rt, 1, b"device.tab"), &mut table);
+    let mut sheet = [0u8; 65536];
+    let s = read(open(rt, 2, b"board.txt"), &mut sheet);
+    let o = match third {
+        Some(name) => read(open(rt, 3, name), other),
+        None => 0,
+    };
+    let n = print(&table[..t], &sheet[..s], &other[..o], text);
+    show(rt, to, text, n)
+}
 
 // Opens the file that an argument names, or else the one of this name.
 pub fn open<R: Files + Env + Eprint>(rt: &R, argument: usize, name: &[u8]) -> Option<R::File> {
@@ -46,7 +78,8 @@ pub fn read<F: Read + Drop>(file: Option<F>, buffer: &mut [u8]) -> usize
     read_full(&mut file, buffer).unwrap_or(0)
 }
 
-// Reads until the buffer is full or the file ends.
+// Reads until the buffer is full or the file ends. A `while`, since each read says how far the next one starts; std's read_exact
+// refuses a file that ends before, and read_to_end needs a heap.
 fn read_full<F: Read>(file: &mut F, buffer: &mut [u8]) -> io::Result<usize>
     ensures within { ReadsAtMost result buffer.new }
     ensures room { length buffer.new ≡ length buffer.old }

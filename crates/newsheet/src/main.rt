@@ -4,11 +4,12 @@
 use std::process::ExitCode;
 
 fn main(rt: HostRuntime) -> ExitCode {
-    let mut table = [0u8; 4096];
-    let t = files::read(files::open(&rt, 1, b"device.tab"), &mut table);
-    let mut sheet = [0u8; 65536];
-    let s = files::read(files::open(&rt, 2, b"board.txt"), &mut sheet);
-    let mut out = [0u8; 46157];
-    let n = moves::newsheet(&table[..t], &sheet[..s], &mut out);
-    files::show(&rt, &mut rt.stdout(), &out, n)
+    files::run(
+        &rt,
+        &mut rt.stdout(),
+        None,
+        &mut [],
+        &mut [0; 46157],
+        |table, sheet, _, out| moves::newsheet(table, sheet, out),
+    )
 }

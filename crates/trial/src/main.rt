@@ -4,13 +4,12 @@
 use std::process::ExitCode;
 
 fn main(rt: HostRuntime) -> ExitCode {
-    let mut table = [0u8; 4096];
-    let t = files::read(files::open(&rt, 1, b"device.tab"), &mut table);
-    let mut sheet = [0u8; 65536];
-    let s = files::read(files::open(&rt, 2, b"board.txt"), &mut sheet);
-    let mut stream = [0u8; 262145];
-    let p = files::read(files::open(&rt, 3, b"stream.txt"), &mut stream);
-    let mut out = [0u8; 46135];
-    let n = trials::trial(&table[..t], &sheet[..s], &stream[..p], &mut out);
-    files::show(&rt, &mut rt.stdout(), &out, n)
+    files::run(
+        &rt,
+        &mut rt.stdout(),
+        Some(b"stream.txt"),
+        &mut [0; 262145],
+        &mut [0; 46135],
+        |table, sheet, stream, out| trials::trial(table, sheet, stream, out),
+    )
 }

@@ -4,13 +4,12 @@
 use std::process::ExitCode;
 
 fn main(rt: HostRuntime) -> ExitCode {
-    let mut table = [0u8; 4096];
-    let t = files::read(files::open(&rt, 1, b"device.tab"), &mut table);
-    let mut sheet = [0u8; 65536];
-    let s = files::read(files::open(&rt, 2, b"board.txt"), &mut sheet);
-    let mut wanted = [0u8; 65536];
-    let w = files::read(files::open(&rt, 3, b"wanted.txt"), &mut wanted);
-    let mut out = [0u8; 64];
-    let n = reports::verify(&table[..t], &sheet[..s], &wanted[..w], &mut out);
-    files::show(&rt, &mut rt.stdout(), &out, n)
+    files::run(
+        &rt,
+        &mut rt.stdout(),
+        Some(b"wanted.txt"),
+        &mut [0; 65536],
+        &mut [0; 64],
+        |table, sheet, wanted, out| reports::verify(table, sheet, wanted, out),
+    )
 }

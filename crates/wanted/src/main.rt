@@ -4,13 +4,12 @@
 use std::process::ExitCode;
 
 fn main(rt: HostRuntime) -> ExitCode {
-    let mut table = [0u8; 4096];
-    let t = files::read(files::open(&rt, 1, b"device.tab"), &mut table);
-    let mut sheet = [0u8; 65536];
-    let s = files::read(files::open(&rt, 2, b"board.txt"), &mut sheet);
-    let mut hex = [0u8; 65537];
-    let h = files::read(files::open(&rt, 3, b"new.hex"), &mut hex);
-    let mut out = [0u8; 46135];
-    let n = listings::wanted(&table[..t], &sheet[..s], &hex[..h], &mut out);
-    files::show(&rt, &mut rt.stdout(), &out, n)
+    files::run(
+        &rt,
+        &mut rt.stdout(),
+        Some(b"new.hex"),
+        &mut [0; 65537],
+        &mut [0; 46135],
+        |table, sheet, hex, out| listings::wanted(table, sheet, hex, out),
+    )
 }
