@@ -30,10 +30,10 @@ def declared(path):
 
 @cache
 def known():
-    """Every name that a crate declares, and the cases of its enums."""
+    """Every name that a crate declares, the cases of its enums, and those of the library's that answer."""
     code, proofs = (sorted(ROOT.glob(f"crates/**/*.{suffix}")) for suffix in ("rt", "antt"))
-    cases = {case for file in code for case in re.findall(r"^    ([A-Z]\w+)(?:\(.*\))?,$", read(file), re.M)}
-    return cases.union(*map(declared, code + proofs))
+    cases = {case for file in code for case in re.findall(r"^    ([A-Z]\w+)(?:\(.*\)| = \d+| \{.*\})?,$", read(file), re.M)}
+    return cases.union(("Option", "Some", "None", "Result", "Ok", "Err"), *map(declared, code + proofs))
 
 
 @cache

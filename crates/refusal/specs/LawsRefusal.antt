@@ -2,7 +2,8 @@
 use Rattle.std.specs.Prelude.{ℕ, Result, Ok, Err, cond, eqb, ◌≡◌, ◌<◌, refl}
 use Rattle.std.proofs.Common.{arith, sym, ap, ◌∙◌}
 use Rattle.refusal.specs.declared.Refusal.{Refusal}
-use Rattle.refusal.specs.declared.Refusal.TheVariants.{TextTooLong, NotARecord, WrongSum, UnknownType, WrongLengthOrAddress, OddData, NoSuchWord, WordTooLarge, GivenBefore, NoEndRecord, AfterEndRecord, BufferLength, DeviceRecord, Sheet, Table, UnknownId, PartTooLarge, WrongName, WrongSheetSum, Image, Reading, WrongBoard, ProtectedBoard, ConfigurationRises, NoRoom, UnknownCode, BadPayload, Cells, BulkEraseOutOfReach, BrokenStream, NoRoomForWord}
+use Rattle.refusal.specs.declared.Refusal.TheVariants.{TextTooLong, NotARecord, WrongSum, UnknownType, WrongLengthOrAddress, OddData, NoSuchWord, WordTooLarge, GivenBefore, NoEndRecord, AfterEndRecord, BufferLength, DeviceRecord, Sheet, Table, UnknownId, PartTooLarge, WrongName, WrongSheetSum}
+use Rattle.refusal.specs.declared.Refusal.TheVariants.{Image, Reading, WrongBoard, ProtectedBoard, ConfigurationRises, NoRoom, UnknownCode, BadPayload, Cells, BulkEraseOutOfReach, BrokenStream, NoRoomForWord}
 use Rattle.refusal.specs.Refusal.{number_of, number_in, value_in}
 
 -- the refusal of a number, where some refusal has it

@@ -1,7 +1,8 @@
 -- The refusals and their numbers ('Refusal numbers'; 17, 18 and 19 are those of #105 and #106).
 use Rattle.std.specs.Prelude.{ℕ, Result, Ok, Err}
 use Rattle.refusal.specs.declared.Refusal.{Refusal}
-use Rattle.refusal.specs.declared.Refusal.TheVariants.{TextTooLong, NotARecord, WrongSum, UnknownType, WrongLengthOrAddress, OddData, NoSuchWord, WordTooLarge, GivenBefore, NoEndRecord, AfterEndRecord, BufferLength, DeviceRecord, Sheet, Table, UnknownId, PartTooLarge, WrongName, WrongSheetSum, Image, Reading, WrongBoard, ProtectedBoard, ConfigurationRises, NoRoom, UnknownCode, BadPayload, Cells, BulkEraseOutOfReach, BrokenStream, NoRoomForWord}
+use Rattle.refusal.specs.declared.Refusal.TheVariants.{TextTooLong, NotARecord, WrongSum, UnknownType, WrongLengthOrAddress, OddData, NoSuchWord, WordTooLarge, GivenBefore, NoEndRecord, AfterEndRecord, BufferLength, DeviceRecord, Sheet, Table, UnknownId, PartTooLarge, WrongName, WrongSheetSum}
+use Rattle.refusal.specs.declared.Refusal.TheVariants.{Image, Reading, WrongBoard, ProtectedBoard, ConfigurationRises, NoRoom, UnknownCode, BadPayload, Cells, BulkEraseOutOfReach, BrokenStream, NoRoomForWord}
 
 -- the number of a refusal
 abbrev pub number_of : Refusal → ℕ
