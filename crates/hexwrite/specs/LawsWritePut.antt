@@ -1,95 +1,99 @@
 -- Laws of the text as it is put: the loop over the runs, the end record, and the call's answers.
-use Rattle.std.specs.Prelude.{ℕ, ◌+◌, ◌-◌, ◌*◌, ◌/◌, ◌≤◌, ◌<◌, ◌≡◌, refl, Bool, true, false, List, [], ◌++◌, length, get_or}
-use Rattle.std.proofs.Common.{arith, ap, ◌∙◌}
+use Rattle.std.specs.Prelude.{ℕ, ◌+◌, ◌-◌, ◌*◌, ◌/◌, ◌≤◌, ◌<◌, ◌≡◌, refl, Bool, true, false, List, [], ◌++◌, length}
+use Rattle.std.proofs.Common.{arith, ap, ◌∙◌, length-append}
 use Rattle.std.proofs.Math.Path.{sym}
 use Rattle.std.proofs.Math.Dec.{eqb}
 use Rattle.std.proofs.lemmas.List.Edits.{sets}
 use borrow.Author.Tests.{le-leb, lt-leb, ne_eqb}
 use Rattle.words.specs.Choice.{pick}
-use Rattle.words.specs.Word.{not_given}
 use Rattle.words.specs.LawsChoice.{pick_true, pick_false}
-use Rattle.words.specs.declared.ByteAddress.{ByteAddress}
 use Rattle.device.specs.declared.Device.{Device}
 use Rattle.device.specs.Record.{most_words, device_ok, record_number}
 use Rattle.device.specs.Memory.{reading_tail, image_ok}
 use Rattle.device.specs.LawsRecord.{rules_of_judged, ok_of_judged, bad_of_judged}
 use Rattle.device.specs.LawsMemory.{image_long}
 use Rattle.hexwrite.specs.declared.WrittenHex.{WrittenHex}
-use Rattle.hexwrite.specs.Writer.{sum_of, digits_of, record_text, upper_of, end_bytes, run_text, upper_after, text_from, hex_text, written_hex, written_out, WroteHex}
-use Rattle.hexwrite.specs.LawsWrite.{Wrote, Left, Addressed, upper_text, head_text, closing_text, refused_with, left_all, left_then, left_part, left_none, left_room, wrote_room, record_put}
-use Rattle.hexwrite.specs.LawsWriteRun.{data_at, run_none, run_told, after_some, upper_read}
-use Rattle.hexwrite.specs.LawsWriteStop.{RunTo, text_end, text_skip}
-use Rattle.hexwrite.specs.LawsWriteText.{length_run, length_text}
+use Rattle.hexwrite.specs.Writer.{sum_of, digits_of, record_text, end_bytes, text_from, hex_text, written_hex, written_out, WroteHex}
+use Rattle.hexwrite.specs.LawsWrite.{upper_text, head_text, closing_text, refused_with}
+use Rattle.hexwrite.specs.LawsWriter.{Puts, puts_none, puts_then, record_puts}
+use Rattle.hexwrite.specs.LawsWriteRun.{run_bytes}
+use Rattle.hexwrite.specs.LawsNextRun.{RunFrom}
+use Rattle.hexwrite.specs.LawsWriteText.{length_text, length_records}
+use Rattle.hexwrite.specs.declared.run.Run.{Run}
+use Rattle.hexwrite.specs.declared.writer.Writer.{Writer}
 
 -- ---- the loop over the runs
 
 -- where the loop stands before entry i, where no run is held back
-pub record Turn (words : ℕ) (image before : List ℕ) (upper at i : ℕ) (out : List ℕ) : Type 0 where
-  pub left : Left (text_from words image (words + reading_tail) 0 0 0) 0 before (text_from words image (words + reading_tail - i) upper i i) at out
-  pub high : i ≤ words + reading_tail
+pub record Turn (words : ℕ) (image : List ℕ) (before now : Writer) (upper i : ℕ) : Type 0 where
+  pub left : (after : Writer) → Puts (text_from words image (length image - i) upper i i) now after → Puts (text_from words image (words + reading_tail) 0 0 0) before after
+  pub room : now.at + length (text_from words image (length image - i) upper i i) ≤ length now.out.now
+  pub high : i ≤ length image
 
-pub turn_first : (words : ℕ) (image before : List ℕ) → Turn words image before 0 0 0 before
-turn_first words image before =
-    record { left = rw all (left_all (text_from words image (words + reading_tail) 0 0 0) 0 before); high = omega arith }
-  where
-    all : words + reading_tail - 0 ≡ words + reading_tail
-    all = omega arith
+module _ (words : ℕ) (image : List ℕ) (before : Writer) where
+  pub turn_first : length image ≡ words + reading_tail → before.at + length (text_from words image (words + reading_tail) 0 0 0) ≤ length before.out.now → Turn words image before before 0 0
+  turn_first long h =
+      let all : length image - 0 ≡ words + reading_tail = omega arith in
+      record { left = λ after p. rw all at p; room = rw all h; high = omega arith }
 
-left_same : {whole : List ℕ} {first : ℕ} {before : List ℕ} {x y : List ℕ} {at : ℕ} {out : List ℕ} → x ≡ y → Left whole first before x at out → Left whole first before y at out
-left_same e l = rw e at l
+  module _ (now : Writer) (upper i : ℕ) (turn : Turn words image before now upper i) where
+    module _ (r : Run) (run : RunFrom words image i r) where
+      abbrev here : List ℕ
+      here = upper_text upper (r.address.0 / 65536) ++ record_text (run_bytes r.address.0 r.words.now)
 
-module _ (words : ℕ) (image before : List ℕ) (upper at i : ℕ) (out : List ℕ) (turn : Turn words image before upper at i out) where
-  pub turn_skip : i < words + reading_tail → get_or image i 0 ≡ not_given → Turn words image before upper at (i + 1) out
-  turn_skip h g = record { left = left_same (text_skip words image (words + reading_tail) upper i h g) turn.left; high = omega arith }
+      abbrev rest : List ℕ
+      rest = text_from words image (length image - r.stop) (r.address.0 / 65536) r.stop r.stop
 
-  module _ (long : length image ≡ words + reading_tail) (stop : ℕ) (run : RunTo image i stop) where
-    next : Left (text_from words image (words + reading_tail) 0 0 0) 0 before
-        (run_text words image upper i stop ++ text_from words image (words + reading_tail - stop) (upper_after words upper i stop) stop stop) at out
-    next = left_same (rw long at (run.text words upper)) turn.left
+      sizes : length (here ++ rest) ≡ length (upper_text upper (r.address.0 / 65536)) + (12 + 4 * length r.words.now) + length rest
+      sizes = length-append here rest ∙ ap (λ n. n + length rest) (length_records upper (r.address.0 / 65536) r.address.0 r.words.now)
 
-    module _ (a : ByteAddress) (d : Addressed words i a) where
-      pub turn_room : length (text_from words image (words + reading_tail) 0 0 0) ≤ length before → at + length (upper_text upper (a.0 / 65536)) + (12 + 4 * (stop - i)) ≤ length out
-      turn_room h =
-          let half : a.0 / 65536 ≡ upper_of words i = upper_read words i a (a.0 / 65536) d refl in
-          let n : length (run_text words image upper i stop) ≡ length (upper_text upper (upper_of words i)) + (12 + 4 * (stop - i)) = length_run words image upper i stop run.more in
-          let l : at + length (run_text words image upper i stop) ≤ length before = left_part (run_text words image upper i stop) _ at out (length before) next (omega arith) in
-          let same : length out ≡ length before = left_room turn.left in
-          rw half (omega arith)
+      whole : now.at + length (here ++ rest) ≤ length now.out.now
+      whole = rw (run.text upper) at turn.room
 
-      pub turn_on : (r : ℕ) (after : List ℕ) (u : ℕ) → Wrote (upper_text upper (a.0 / 65536) ++ record_text (data_at a.0 image i stop)) at out r after → u ≡ a.0 / 65536
-          → Turn words image before u r stop after
-      turn_on r after u w q =
-          let half : upper_after words upper i stop ≡ u = after_some words image upper i stop run.more ∙ sym (upper_read words i a u d q) in
-          let put : Wrote (run_text words image upper i stop) at out r after = rw (run_told words image upper i stop a d run.more) w in
+      pub turn_room : now.at + length (upper_text upper (r.address.0 / 65536)) + (12 + 4 * length r.words.now) ≤ length now.out.now
+      turn_room = omega (arith, sizes, whole)
+
+      pub turn_on : (next : Writer) (half : ℕ) → Puts here now next → half ≡ r.address.0 / 65536 → Turn words image before next half r.stop
+      turn_on next half p h =
+          let size : length here ≡ length (upper_text upper (r.address.0 / 65536)) + (12 + 4 * length r.words.now) = length_records upper (r.address.0 / 65536) r.address.0 r.words.now in
+          let at : next.at ≡ now.at + length here = p.wrote.end in
+          let same : length next.out.now ≡ length now.out.now = p.room in
           record {
-            left = rw half at (left_then (run_text words image upper i stop) _ at out r after next put);
-            high = let far : stop ≤ length image = run.inside in omega arith;
+            left = λ after q. turn.left after (rw (run.text upper) (puts_then p (rw h at q)));
+            room = rw h (omega (arith, sizes, whole));
+            high = run.inside;
           }
 
-  pub turn_done : words + reading_tail ≤ i → Wrote (text_from words image (words + reading_tail) 0 0 0) 0 before at out
-  turn_done h = left_none at out (left_same (text_end words image (words + reading_tail) upper i i h ∙ run_none words image upper i i (omega arith)) turn.left)
+    pub turn_done : ((u : ℕ) → text_from words image (length image - i) u i i ≡ []) → Puts (text_from words image (words + reading_tail) 0 0 0) before now
+    turn_done none = turn.left now (rw (none upper) (puts_none now))
 
 -- ---- the end record
 
-pub end_put : (at : ℕ) (out m after : List ℕ) (sum r : ℕ) → Wrote (head_text 0 0 0 1) at out sum m → Wrote (closing_text 1) sum m r after → after ≡ sets out at (record_text end_bytes)
-unfolding end_bytes digits_of sum_of
-end_put at out m after sum r w v = (record_put 0 0 0 1 [] at sum 1 out m m r after w refl sum (omega arith) refl v).bytes
+pub end_put : {a b c : Writer} → Puts (head_text 0 0 0 1) a b → Puts (closing_text 1) b c → Puts (record_text end_bytes) a c
+unfolding end_bytes
+end_put {b = b} p q = record_puts 0 0 0 1 1 [] p nothing summed q
+  where
+    nothing : Puts (digits_of []) b b
+    nothing = unfold digits_of in puts_none b
+
+    summed : 1 ≡ 0 + (0 + (0 + (1 + sum_of [])))
+    summed = unfold sum_of in refl
 
 module _ (words : ℕ) (image out : List ℕ) (fits : length (hex_text words image) ≤ length out) where
   pub entries_room : length (text_from words image (words + reading_tail) 0 0 0) ≤ length out
   entries_room = let n : length (hex_text words image) ≡ 12 + length (text_from words image (words + reading_tail) 0 0 0) = length_text words image in omega arith
 
-  module _ (at : ℕ) (mid : List ℕ) (w : Wrote (text_from words image (words + reading_tail) 0 0 0) 0 out at mid) where
-    pub end_room : at + 12 ≤ length mid
+  module _ (a b : Writer) (start : a.at ≡ 0) (lent : a.out.now ≡ out) (p : Puts (text_from words image (words + reading_tail) 0 0 0) a b) where
+    pub end_room : b.at + 12 ≤ length b.out.now
     end_room =
         let n : length (hex_text words image) ≡ 12 + length (text_from words image (words + reading_tail) 0 0 0) = length_text words image in
-        let same : length mid ≡ length out = wrote_room w in
-        let e : at ≡ 0 + length (text_from words image (words + reading_tail) 0 0 0) = w.end in
+        let same : length b.out.now ≡ length out = p.room ∙ ap length lent in
+        let e : b.at ≡ a.at + length (text_from words image (words + reading_tail) 0 0 0) = p.wrote.end in
         omega arith
 
-    pub text_put : (after : List ℕ) → after ≡ sets mid at (record_text end_bytes) → after ≡ sets out 0 (hex_text words image)
+    pub text_put : (c : Writer) → Puts (record_text end_bytes) b c → c.out.now ≡ sets out 0 (hex_text words image)
     unfolding hex_text
-    text_put after e = e ∙ (left_then (text_from words image (words + reading_tail) 0 0 0) (record_text end_bytes) 0 out at mid (left_all (hex_text words image) 0 out) w).bytes
+    text_put c q = (puts_then p q).wrote.bytes ∙ cc
 
 -- ---- the call's answers
 

@@ -2,10 +2,9 @@
 use Prim.Native.Nat.{ℕ, zero, suc, ◌+◌, ◌-◌, ◌*◌, ◌/◌, ◌%◌, ◌≤◌, ◌<◌}
 use native.Mathlib.Omega.{arith}
 use Rattle.std.proofs.Math.Decide.{dec_lt, ℕ_discrete}
-use Rattle.std.specs.Prelude.{◌≡◌, refl, List, [], ◌∷◌, ◌++◌, length, get_or}
-use Rattle.std.proofs.Common.{ap, ◌∙◌}
-use Rattle.std.proofs.lemmas.List.Edits.{sets}
-use Rattle.std.proofs.Math.Seq.{length-sets}
+use Rattle.std.specs.Prelude.{◌≡◌, refl, List, [], ◌∷◌, ◌++◌, length, get_or, take, drop}
+use Rattle.std.proofs.Common.{ap, ◌∙◌, length-drop, length-take-le}
+use Rattle.std.proofs.lemmas.List.{get_or-take, get_or-drop}
 use borrow.Author.Tests.{lt-ltb, le-ltb, eq-eqb, ne_eqb}
 use Rattle.words.specs.Choice.{pick}
 use Rattle.words.specs.Word.{not_given}
@@ -19,7 +18,9 @@ use Rattle.words.specs.declared.Place.TheVariants.{At, Nowhere}
 use Rattle.device.specs.Record.{most_words}
 use Rattle.device.specs.Memory.{reading_tail}
 use Rattle.hexwrite.specs.Writer.{sum_of, digits_of, record_text, hex_address, upper_of, word_bytes, data_bytes, upper_bytes, run_text, upper_after, run_end, next_start}
-use Rattle.hexwrite.specs.LawsWrite.{Wrote, Addressed, upper_text, head_text, closing_text, left_all, left_then, left_done, wrote_none, wrote_room, length_record, record_put}
+use Rattle.hexwrite.specs.LawsWrite.{Addressed, upper_text, head_text, closing_text, length_record}
+use Rattle.hexwrite.specs.LawsWriter.{Puts, puts_none, puts_then, record_puts}
+use Rattle.hexwrite.specs.declared.writer.Writer.{Writer}
 
 -- ---- addresses
 
@@ -91,75 +92,32 @@ pub length_data : (words : ℕ) (image : List ℕ) (s e : ℕ) → length (data_
 unfolding data_bytes
 length_data words image s e = let w : length (word_bytes (e - s) s image) ≡ 2 * (e - s) = length_words (e - s) s image in omega arith
 
--- the same with the entry's address as it was told
-unfoldable pub data_at : (address : ℕ) → List ℕ → (s e : ℕ) → List ℕ
-data_at address image s e = 2 * (e - s) ∷ address % 65536 / 256 ∷ address % 256 ∷ 0 ∷ word_bytes (e - s) s image
+-- the same by the run's words and the address of its first byte
+unfoldable pub run_bytes : (address : ℕ) → List ℕ → List ℕ
+run_bytes address run = 2 * length run ∷ address % 65536 / 256 ∷ address % 256 ∷ 0 ∷ word_bytes (length run) 0 run
 
--- ---- the digits of a run's words
+pub length_run_record : (address : ℕ) (run : List ℕ) → length (record_text (run_bytes address run)) ≡ 12 + 4 * length run
+unfolding run_bytes
+length_run_record address run =
+    let r : length (record_text (run_bytes address run)) ≡ 2 * length (run_bytes address run) + 4 = length_record (run_bytes address run) in
+    let n : length (word_bytes (length run) 0 run) ≡ 2 * length run = length_words (length run) 0 run in
+    omega arith
 
--- they were put, and r is the sum of their bytes
-pub record WordsPut (image : List ℕ) (start stop at : ℕ) (out : List ℕ) (r : ℕ) (after : List ℕ) : Type 0 where
-  pub bytes : after ≡ sets out at (digits_of (word_bytes (stop - start) start image))
-  pub sum : r ≡ sum_of (word_bytes (stop - start) start image)
-  pub few : r ≤ 510 * (stop - start)
+-- the bytes of words that were cut out of an image
+word_part : (n i s m : ℕ) (image : List ℕ) → i + n ≤ m → word_bytes n i (take m (drop s image)) ≡ word_bytes n (s + i) image
+unfolding word_bytes
+word_part zero i s m image h = refl
+word_part (suc n) i s m image h =
+    let here : get_or (take m (drop s image)) i 0 ≡ get_or image (s + i) 0 = get_or-take m (drop s image) i 0 (omega arith) ∙ get_or-drop s image i 0 in
+    let rest : word_bytes n (i + 1) (take m (drop s image)) ≡ word_bytes n (s + (i + 1)) image = word_part n (i + 1) s m image (omega arith) in
+    let next : s + (i + 1) ≡ s + i + 1 = omega arith in
+    rw (here, rest, next)
 
--- those before entry i were put, and `to` is the place past them
-pub record Putting (image : List ℕ) (start stop at : ℕ) (before out : List ℕ) (sum to i : ℕ) : Type 0 where
-  pub low : start ≤ i
-  pub high : i ≤ stop
-  pub place : to ≡ at + 4 * (i - start)
-  pub few : sum ≤ 510 * (i - start)
-  pub room : length out ≡ length before
-  pub bytes : sets out to (digits_of (word_bytes (stop - i) i image)) ≡ sets before at (digits_of (word_bytes (stop - start) start image))
-  pub sums : sum + sum_of (word_bytes (stop - i) i image) ≡ sum_of (word_bytes (stop - start) start image)
-
-module _ (image : List ℕ) (start stop at : ℕ) (before : List ℕ) where
-  pub putting_first : start ≤ stop → Putting image start stop at before before 0 at start
-  putting_first h = record { low = omega arith; high = h; place = omega arith; few = omega arith; room = refl; bytes = refl; sums = omega arith }
-
-  module _ (out : List ℕ) (sum to i : ℕ) (p : Putting image start stop at before out sum to i) where
-    pub putting_on : i < stop → get_or image i 0 < 65536 → (m n : List ℕ) → m ≡ sets out to (byte_text (get_or image i 0 % 256))
-        → n ≡ sets m (to + 2) (byte_text (get_or image i 0 / 256)) → Putting image start stop at before n (sum + (get_or image i 0 % 256 + get_or image i 0 / 256)) (to + 4) (i + 1)
-    putting_on h fits m n e q =
-        record {
-          low = omega arith;
-          high = omega arith;
-          place = omega arith;
-          few = omega arith;
-          room = ap length
-              (q ∙ ap (λ l. sets l (to + 2) (byte_text (get_or image i 0 / 256))) e) ∙
-              (length-sets _ (to + 2) (byte_text (get_or image i 0 / 256)) ∙ (length-sets out to (byte_text (get_or image i 0 % 256)) ∙ p.room));
-          bytes = stored;
-          sums = added;
-        }
-      where
-        more : stop - i ≡ suc (stop - (i + 1))
-        more = omega arith
-
-        stored : sets n (to + 4) (digits_of (word_bytes (stop - (i + 1)) (i + 1) image)) ≡ sets before at (digits_of (word_bytes (stop - start) start image))
-        stored =
-            unfold word_bytes digits_of byte_text in
-            let two : to + 2 ≡ suc (suc to) = omega arith in
-            let four : to + 4 ≡ suc (suc (suc (suc to))) = omega arith in
-            rw (q, e, two, four) (rw more at p.bytes)
-
-        added : sum + (get_or image i 0 % 256 + get_or image i 0 / 256) + sum_of (word_bytes (stop - (i + 1)) (i + 1) image) ≡ sum_of (word_bytes (stop - start) start image)
-        added =
-            unfold word_bytes sum_of in
-            let z : sum + (get_or image i 0 % 256 + (get_or image i 0 / 256 + sum_of (word_bytes (stop - (i + 1)) (i + 1) image))) ≡ sum_of (word_bytes (stop - start) start image) = rw more at p.sums in
-            omega arith
-
-    pub putting_done : stop ≤ i → WordsPut image start stop at before sum out
-    putting_done h = record { bytes = unfold word_bytes digits_of in rw none at p.bytes; sum = added; few = omega arith }
-      where
-        none : stop - i ≡ 0
-        none = omega arith
-
-        added : sum ≡ sum_of (word_bytes (stop - start) start image)
-        added =
-            unfold word_bytes sum_of in
-            let z : sum + 0 ≡ sum_of (word_bytes (stop - start) start image) = rw none at p.sums in
-            omega arith
+cut_bytes : (s e : ℕ) (image : List ℕ) → s < e → e ≤ length image → (length (take (e - s) (drop s image)) ≡ e - s) × (word_bytes (e - s) 0 (take (e - s) (drop s image)) ≡ word_bytes (e - s) s image)
+cut_bytes s e image h t =
+    let d : length (drop s image) ≡ length image - s = length-drop s image in
+    let here : s + 0 ≡ s = omega arith in
+    (length-take-le (e - s) (drop s image) (omega arith), word_part (e - s) 0 s (e - s) image (omega arith) ∙ ap (λ k. word_bytes (e - s) k image) here)
 
 -- ---- the text of a run
 
@@ -185,11 +143,13 @@ pub upper_read : (words s : ℕ) (a : ByteAddress) (r : ℕ) → Addressed words
 unfolding upper_of
 upper_read words s a r d q = q ∙ ap (λ n. n / 65536) d.is
 
--- a run's text with its address as it was told
-pub run_told : (words : ℕ) (image : List ℕ) (upper s e : ℕ) (a : ByteAddress) → Addressed words s a → s < e
-    → run_text words image upper s e ≡ upper_text upper (a.0 / 65536) ++ record_text (data_at a.0 image s e)
-unfolding upper_of data_bytes data_at
-run_told words image upper s e a d h = run_some words image upper s e h ∙ rw d.is
+-- a run's text by its words
+pub run_told : (words : ℕ) (image : List ℕ) (upper s e : ℕ) (a : ByteAddress) → Addressed words s a → s < e → e ≤ length image
+    → run_text words image upper s e ≡ upper_text upper (a.0 / 65536) ++ record_text (run_bytes a.0 (take (e - s) (drop s image)))
+unfolding upper_of data_bytes run_bytes
+run_told words image upper s e a d h t =
+    let b = cut_bytes s e image h t in
+    run_some words image upper s e h ∙ rw (b.0, b.1, d.is)
 
 module _ (upper next : ℕ) where
   pub upper_same : next ≡ upper → upper_text upper next ≡ []
@@ -247,44 +207,67 @@ seen image s i = by (ℕ_discrete (get_or image i 0) not_given) (ℕ_discrete ((
 
 -- ---- the code's records
 
-pub upper_kept : (upper next at : ℕ) (out : List ℕ) → next ≡ upper → Wrote (upper_text upper next) at out at out
-upper_kept upper next at out e = rw (upper_same upper next e) (wrote_none at out)
+pub upper_kept : (upper next : ℕ) (w : Writer) → next ≡ upper → Puts (upper_text upper next) w w
+upper_kept upper next w e = rw (upper_same upper next e) (puts_none w)
 
-pub upper_put : (upper next at : ℕ) → (next ≡ upper → ⊥) → (out : List ℕ) (body : ℕ) (m₁ m₂ m₃ : List ℕ) (r : ℕ) (after : List ℕ)
-    → Wrote (head_text 2 0 0 4) at out body m₁ → m₂ ≡ sets m₁ body (byte_text (next / 256)) → m₃ ≡ sets m₂ (body + 2) (byte_text (next % 256))
-    → Wrote (closing_text (6 + next / 256 + next % 256)) (body + 4) m₃ r after → Wrote (upper_text upper next) at out r after
+pub upper_put : (upper next : ℕ) → (next ≡ upper → ⊥) → {a b c d e : Writer} → Puts (head_text 2 0 0 4) a b → Puts (byte_text (next / 256)) b c → Puts (byte_text (next % 256)) c d
+    → Puts (closing_text (6 + next / 256 + next % 256)) d e → Puts (upper_text upper next) a e
 unfolding upper_bytes
-upper_put upper next at n out body m₁ m₂ m₃ r after w e₂ e₃ v =
-    rw (upper_new upper next n)
-    (record_put 2 0 0 4 (next / 256 ∷ next % 256 ∷ []) at body (6 + next / 256 + next % 256) out m₁ m₃ r after w stored (body + 4) refl summed v)
+upper_put upper next n {b = b} {d = d} p q r t = rw (upper_new upper next n) (record_puts 2 0 0 4 (6 + next / 256 + next % 256) (next / 256 ∷ next % 256 ∷ []) p stored summed t)
   where
-    stored : m₃ ≡ sets m₁ body (digits_of (next / 256 ∷ next % 256 ∷ []))
-    stored = unfold digits_of byte_text in let two : body + 2 ≡ suc (suc body) = omega arith in rw (e₃, e₂, two)
+    stored : Puts (digits_of (next / 256 ∷ next % 256 ∷ [])) b d
+    stored = unfold digits_of byte_text in puts_then q r
 
     summed : 6 + next / 256 + next % 256 ≡ 2 + (0 + (0 + (4 + sum_of (next / 256 ∷ next % 256 ∷ []))))
     summed = unfold sum_of in omega arith
 
-pub data_put : (address : ℕ) (image : List ℕ) (s e at : ℕ) (out : List ℕ) (body : ℕ) (m₁ : List ℕ) (sum : ℕ) (m₂ : List ℕ) (r : ℕ) (after : List ℕ)
-    → Wrote (head_text (2 * (e - s)) (address % 65536 / 256) (address % 256) 0) at out body m₁ → WordsPut image s e body m₁ sum m₂
-    → Wrote (closing_text (2 * (e - s) + address % 65536 / 256 + address % 256 + sum)) (body + 4 * (e - s)) m₂ r after → Wrote (record_text (data_at address image s e)) at out r after
-unfolding data_at
-data_put address image s e at out body m₁ sum m₂ r after w p v =
-    let n : length (word_bytes (e - s) s image) ≡ 2 * (e - s) = length_words (e - s) s image in
-    let q : sum ≡ sum_of (word_bytes (e - s) s image) = p.sum in
-    record_put (2 * (e - s)) (address % 65536 / 256) (address % 256) 0 (word_bytes (e - s) s image) at body
-    (2 * (e - s) + address % 65536 / 256 + address % 256 + sum) out m₁ m₂ r after w p.bytes (body + 4 * (e - s)) (omega arith) (omega arith) v
+pub data_put : (address : ℕ) (run : List ℕ) (sum : ℕ) → {a b c d : Writer} → Puts (head_text (2 * length run) (address % 65536 / 256) (address % 256) 0) a b
+    → Puts (digits_of (word_bytes (length run) 0 run)) b c → sum ≡ sum_of (word_bytes (length run) 0 run)
+    → Puts (closing_text (2 * length run + address % 65536 / 256 + address % 256 + sum)) c d → Puts (record_text (run_bytes address run)) a d
+unfolding run_bytes
+data_put address run sum p q e r = record_puts _ _ _ _ _ (word_bytes (length run) 0 run) p q (omega arith) r
 
--- an upper half and what comes after it
-module _ (upper half full at : ℕ) (out : List ℕ) (e : half ≡ full) where
-  pub half_room : (more : ℕ) → at + length (upper_text upper full) + more ≤ length out → at + length (upper_text upper half) ≤ length out
-  half_room more h = rw e (omega arith)
+-- ---- the digits of a run's words
 
-  module _ (next : ℕ) (mid : List ℕ) (w : Wrote (upper_text upper half) at out next mid) where
-    pub rest_room : (more : ℕ) → at + length (upper_text upper full) + more ≤ length out → next + more ≤ length mid
-    rest_room more h =
-        let p : next ≡ at + length (upper_text upper full) = rw e at w.end in
-        let same : length mid ≡ length out = wrote_room w in
-        omega arith
+-- i words are put, and their bytes added up
+pub record Putting (run : List ℕ) (before now : Writer) (sum i : ℕ) : Type 0 where
+  pub place : now.at + 4 * (length run - i) ≡ before.at + 4 * length run
+  pub few : sum ≤ 510 * i
+  pub room : length now.out.now ≡ length before.out.now
+  pub left : (after : Writer) → Puts (digits_of (word_bytes (length run - i) i run)) now after → Puts (digits_of (word_bytes (length run) 0 run)) before after
+  pub sums : sum + sum_of (word_bytes (length run - i) i run) ≡ sum_of (word_bytes (length run) 0 run)
 
-    pub run_put : (rest : List ℕ) (r : ℕ) (after : List ℕ) → Wrote rest next mid r after → Wrote (upper_text upper full ++ rest) at out r after
-    run_put rest r after v = left_done rest next mid r after (left_then (upper_text upper full) rest at out next mid (left_all (upper_text upper full ++ rest) at out) (rw e at w)) v
+module _ (run : List ℕ) (before : Writer) where
+  pub putting_first : Putting run before before 0 0
+  putting_first =
+      let all : length run - 0 ≡ length run = omega arith in
+      record { place = omega arith; few = omega arith; room = refl; left = λ after p. rw all at p; sums = rw all (omega arith) }
+
+  module _ (now : Writer) (sum i : ℕ) (p : Putting run before now sum i) where
+    pub putting_on : i < length run → get_or run i 0 < 65536 → {m n : Writer} → Puts (byte_text (get_or run i 0 % 256)) now m → m.at ≡ now.at + 2
+        → Puts (byte_text (get_or run i 0 / 256)) m n → n.at ≡ m.at + 2 → Putting run before n (sum + (get_or run i 0 % 256 + get_or run i 0 / 256)) (i + 1)
+    putting_on h fits {m} {n} q eq r er =
+        record {
+          place = omega (arith, p.place);
+          few = omega (arith, p.few);
+          room = r.room ∙ (q.room ∙ p.room);
+          left = λ after t. p.left after (unfold word_bytes digits_of in rw more (puts_then q (puts_then r t)));
+          sums = unfold word_bytes sum_of in
+              let z : sum + (get_or run i 0 % 256 + (get_or run i 0 / 256 + sum_of (word_bytes (length run - (i + 1)) (i + 1) run))) ≡ sum_of (word_bytes (length run) 0 run) = rw more at p.sums in
+              omega arith;
+        }
+      where
+        more : length run - i ≡ suc (length run - (i + 1))
+        more = omega arith
+
+    module _ (h : length run ≤ i) where
+      none : length run - i ≡ 0
+      none = omega arith
+
+      pub putting_done : Puts (digits_of (word_bytes (length run) 0 run)) before now
+      putting_done = p.left now (unfold word_bytes digits_of in rw none (puts_none now))
+
+      pub putting_sum : sum ≡ sum_of (word_bytes (length run) 0 run)
+      putting_sum = unfold word_bytes sum_of in
+          let z : sum + 0 ≡ sum_of (word_bytes (length run) 0 run) = rw none at p.sums in
+          omega arith

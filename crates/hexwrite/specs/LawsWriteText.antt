@@ -1,20 +1,20 @@
 -- Laws of the whole text's length, and of its count.
-use Prim.Native.Nat.{ℕ, zero, suc, ◌+◌, ◌-◌, ◌*◌, ◌%◌, ◌≤◌, ◌<◌}
+use Prim.Native.Nat.{ℕ, zero, suc, ◌+◌, ◌-◌, ◌*◌, ◌/◌, ◌%◌, ◌≤◌, ◌<◌}
 use native.Mathlib.Omega.{arith}
 use Rattle.std.proofs.Math.Decide.{dec_lt, ℕ_discrete}
-use Rattle.std.specs.Prelude.{◌≡◌, List, [], ◌++◌, ltb, eqb, get_or}
+use Rattle.std.specs.Prelude.{◌≡◌, List, [], ◌++◌, ltb, eqb}
 use Rattle.std.proofs.Math.Path.{refl}
-use Rattle.std.proofs.Common.{sym, ◌∙◌}
+use Rattle.std.proofs.Common.{sym, ap, ◌∙◌}
 use Rattle.std.proofs.Math.ListN.{length, length-append}
 use borrow.Author.Tests.{lt-ltb, le-ltb, eq-eqb, ne_eqb}
 use Rattle.words.specs.Choice.{pick}
-use Rattle.words.specs.Word.{not_given}
 use Rattle.device.specs.Record.{most_words}
 use Rattle.device.specs.Memory.{reading_tail}
 use Rattle.hexwrite.specs.Writer.{record_text, upper_of, data_bytes, end_bytes, run_text, upper_after, run_end, next_start, text_from, hex_text}
 use Rattle.hexwrite.specs.LawsWrite.{upper_text, text_limit, length_record}
-use Rattle.hexwrite.specs.LawsWriteRun.{Seen, seen, gap, full, goes, run_some, run_none, after_some, after_none, upper_same, length_new, upper_most, upper_rises, length_data}
-use Rattle.hexwrite.specs.LawsWriteStop.{RunTo, text_end, text_skip}
+use Rattle.hexwrite.specs.LawsWriteRun.{Seen, seen, gap, full, goes, run_some, run_none, after_some, after_none, upper_same, length_new, upper_most, upper_rises, length_data, run_bytes, length_run_record}
+use Rattle.hexwrite.specs.LawsNextRun.{RunFrom}
+use Rattle.hexwrite.specs.declared.run.Run.{Run}
 
 -- ---- the text's length
 
@@ -188,34 +188,34 @@ module _ (words : ℕ) (image : List ℕ) (m : words ≤ most_words) where
 
 -- the text before entry i, where no run is held back, and the end record are counted
 pub record Counted (words : ℕ) (image : List ℕ) (total upper i : ℕ) : Type 0 where
-  pub rest : total + length (text_from words image (words + reading_tail - i) upper i i) ≡ length (hex_text words image)
+  pub rest : total + length (text_from words image (length image - i) upper i i) ≡ length (hex_text words image)
   pub fits : length (hex_text words image) < text_limit
-  pub high : i ≤ words + reading_tail
+  pub high : i ≤ length image
 
-pub counted_first : (words : ℕ) (image : List ℕ) → words ≤ most_words → Counted words image 12 0 0
-counted_first words image m =
-    let all : words + reading_tail - 0 ≡ words + reading_tail = omega arith in
+pub counted_first : (words : ℕ) (image : List ℕ) → words ≤ most_words → length image ≡ words + reading_tail → Counted words image 12 0 0
+counted_first words image m long =
+    let all : length image - 0 ≡ words + reading_tail = omega arith in
     record { rest = rw all (sym (length_text words image)); fits = text_fits words image m; high = omega arith }
 
+-- the length of a run's records
+pub length_records : (upper half address : ℕ) (run : List ℕ) → length (upper_text upper half ++ record_text (run_bytes address run)) ≡ length (upper_text upper half) + (12 + 4 * length run)
+length_records upper half address run =
+    length-append (upper_text upper half) (record_text (run_bytes address run)) ∙ ap (λ n. length (upper_text upper half) + n) (length_run_record address run)
+
 module _ (words : ℕ) (image : List ℕ) (total upper i : ℕ) (c : Counted words image total upper i) where
-  pub counted_skip : i < words + reading_tail → get_or image i 0 ≡ not_given → Counted words image total upper (i + 1)
-  counted_skip h g = record { rest = rw (text_skip words image (words + reading_tail) upper i h g) at c.rest; fits = c.fits; high = omega arith }
+  pub counted_on : (r : Run) → RunFrom words image i r → (count half : ℕ) → count ≡ length (upper_text upper (r.address.0 / 65536)) + (12 + 4 * length r.words.now)
+      → half ≡ r.address.0 / 65536 → Counted words image (total + count) half r.stop
+  counted_on r run count half q h =
+      let here : List ℕ = upper_text upper (r.address.0 / 65536) ++ record_text (run_bytes r.address.0 r.words.now) in
+      let rest : List ℕ = text_from words image (length image - r.stop) (r.address.0 / 65536) r.stop r.stop in
+      let joined : length (here ++ rest) ≡ length here + length rest = length-append here rest in
+      let part : length here ≡ length (upper_text upper (r.address.0 / 65536)) + (12 + 4 * length r.words.now) = length_records upper (r.address.0 / 65536) r.address.0 r.words.now in
+      let old : total + length (here ++ rest) ≡ length (hex_text words image) = rw (run.text upper) at c.rest in
+      record { rest = rw h (omega arith); fits = c.fits; high = run.inside }
 
-  pub counted_on : length image ≡ words + reading_tail → (stop half count : ℕ) → RunTo image i stop → half ≡ upper_of words i
-      → count ≡ length (upper_text upper half) + (12 + 4 * (stop - i)) → Counted words image (total + count) half stop
-  counted_on long stop half count run h q =
-      let rest : List ℕ = text_from words image (words + reading_tail - stop) half stop stop in
-      let after : upper_after words upper i stop ≡ half = after_some words image upper i stop run.more ∙ sym h in
-      let split : text_from words image (words + reading_tail - i) upper i i ≡ run_text words image upper i stop ++ rest = rw (long, after) at (run.text words upper) in
-      let joined : length (run_text words image upper i stop ++ rest) ≡ length (run_text words image upper i stop) + length rest = length-append (run_text words image upper i stop) rest in
-      let here : length (run_text words image upper i stop) ≡ length (upper_text upper half) + (12 + 4 * (stop - i)) = rw h (length_run words image upper i stop run.more) in
-      let old : total + length (run_text words image upper i stop ++ rest) ≡ length (hex_text words image) = rw split at c.rest in
-      record { rest = omega arith; fits = c.fits; high = let far : stop ≤ length image = run.inside in omega arith }
-
-  pub counted_all : words + reading_tail ≤ i → total ≡ length (hex_text words image)
-  counted_all h =
-      let none : text_from words image (words + reading_tail - i) upper i i ≡ [] = text_end words image (words + reading_tail) upper i i h ∙ run_none words image upper i i (omega arith) in
-      let z : total + 0 ≡ length (hex_text words image) = rw none at c.rest in
+  pub counted_all : ((u : ℕ) → text_from words image (length image - i) u i i ≡ []) → total ≡ length (hex_text words image)
+  counted_all none =
+      let z : total + 0 ≡ length (hex_text words image) = rw (none upper) at c.rest in
       omega arith
 
 -- the code's two lengths of a run's records
@@ -223,5 +223,5 @@ module _ (upper half count : ℕ) where
   pub run_same : half ≡ upper → 12 + 4 * count ≡ length (upper_text upper half) + (12 + 4 * count)
   run_same e = rw (upper_same upper half e) (omega arith)
 
-  pub run_new : (half ≡ upper → ⊥) → 16 + 12 + 4 * count ≡ length (upper_text upper half) + (12 + 4 * count)
+  pub run_new : (half ≡ upper → ⊥) → 16 + (12 + 4 * count) ≡ length (upper_text upper half) + (12 + 4 * count)
   run_new n = let l : length (upper_text upper half) ≡ 16 = length_new upper half n in omega arith

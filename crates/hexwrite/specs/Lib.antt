@@ -3,6 +3,8 @@ pub mod Writer
 pub mod LawsWrite
 pub mod LawsWriteRun
 pub mod LawsWriteStop
+pub mod LawsNextRun
 pub mod LawsWriteText
 pub mod LawsWritePut
 pub mod LawsWriteRecords
+pub mod LawsWriter

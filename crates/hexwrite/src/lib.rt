@@ -1,12 +1,12 @@
 // Intel HEX, written of an image. No call here has a `requires`.
 #![tactic(auto)]
 
+mod capitals;
+mod next_run;
+mod run;
 mod write;
-mod write_address;
-mod write_length;
-mod write_record;
 mod write_run;
-mod write_stop;
+mod writer;
 
 pub use write::write_hex;
 
