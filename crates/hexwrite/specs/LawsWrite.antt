@@ -11,8 +11,7 @@ use Rattle.numerals.specs.Text.{lf}
 use Rattle.words.specs.LawsLists.{get_or_build}
 use Rattle.words.specs.declared.ByteAddress.{ByteAddress}
 use Rattle.device.specs.Record.{most_words}
-use Rattle.hexwrite.specs.declared.WrittenHex.{WrittenHex}
-use Rattle.hexwrite.specs.Writer.{sum_of, digits_of, record_text, hex_address, upper_bytes}
+use Rattle.hexwrite.specs.Writer.{WrittenHex, sum_of, digits_of, record_text, hex_address, upper_bytes}
 
 -- one more than the length of the longest text
 abbrev pub text_limit : ℕ

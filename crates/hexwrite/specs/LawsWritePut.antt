@@ -1,20 +1,10 @@
 -- Laws of the text as it is put: the loop over the runs, the end record, and the call's answers.
-use Rattle.std.specs.Prelude.{ℕ, ◌+◌, ◌-◌, ◌*◌, ◌/◌, ◌≤◌, ◌<◌, ◌≡◌, refl, Bool, true, false, List, [], ◌++◌, length}
+use Rattle.std.specs.Prelude.{ℕ, ◌+◌, ◌-◌, ◌*◌, ◌/◌, ◌≤◌, ◌≡◌, refl, List, [], ◌++◌, length}
 use Rattle.std.proofs.Common.{arith, ap, ◌∙◌, length-append}
-use Rattle.std.proofs.Math.Path.{sym}
-use Rattle.std.proofs.Math.Dec.{eqb}
 use Rattle.std.proofs.lemmas.List.Edits.{sets}
-use borrow.Author.Tests.{le-leb, lt-leb, ne_eqb}
-use Rattle.words.specs.Choice.{pick}
-use Rattle.words.specs.LawsChoice.{pick_true, pick_false}
-use Rattle.device.specs.declared.Device.{Device}
-use Rattle.device.specs.Record.{most_words, device_ok, record_number}
-use Rattle.device.specs.Memory.{reading_tail, image_ok}
-use Rattle.device.specs.LawsRecord.{rules_of_judged, ok_of_judged, bad_of_judged}
-use Rattle.device.specs.LawsMemory.{image_long}
-use Rattle.hexwrite.specs.declared.WrittenHex.{WrittenHex}
-use Rattle.hexwrite.specs.Writer.{sum_of, digits_of, record_text, end_bytes, text_from, hex_text, written_hex, written_out, WroteHex}
-use Rattle.hexwrite.specs.LawsWrite.{upper_text, head_text, closing_text, refused_with}
+use Rattle.device.specs.Memory.{reading_tail}
+use Rattle.hexwrite.specs.Writer.{sum_of, digits_of, record_text, end_bytes, text_from, hex_text}
+use Rattle.hexwrite.specs.LawsWrite.{upper_text, head_text, closing_text}
 use Rattle.hexwrite.specs.LawsWriter.{Puts, puts_none, puts_then, record_puts}
 use Rattle.hexwrite.specs.LawsWriteRun.{run_bytes}
 use Rattle.hexwrite.specs.LawsNextRun.{RunFrom}
@@ -94,53 +84,3 @@ module _ (words : ℕ) (image out : List ℕ) (fits : length (hex_text words ima
     pub text_put : (c : Writer) → Puts (record_text end_bytes) b c → c.out.now ≡ sets out 0 (hex_text words image)
     unfolding hex_text
     text_put c q = (puts_then p q).wrote.bytes ∙ cc
-
--- ---- the call's answers
-
--- what the first two tests tell
-pub judged_sound : (d : Device) (image : List ℕ) (number : ℕ) (b : Bool) → number ≡ record_number d → number ≡ 0 → b ≡ image_ok d.words image → b ≡ true
-    → (d.words ≤ most_words) × (length image ≡ d.words + reading_tail)
-judged_sound d image number b judged sound e t = ((rules_of_judged d (sym judged ∙ sound)).most, image_long d.words image (sym e ∙ t))
-
--- what the third test tells
-pub text_room : {n total room : ℕ} → n ≡ total → n ≤ room → total ≤ room
-text_room e h = rw e at h
-
-module _ (d : Device) (image out : List ℕ) (number : ℕ) (judged : number ≡ record_number d) where
-  refuses : (n : ℕ) → (n ≡ 0 → ⊥) → written_hex d image out ≡ refused_with n → WroteHex d image out (refused_with n) out
-  unfolding written_out
-  refuses n nz e =
-      record {
-        answer = sym e;
-        bytes = sym (pick_false (eqb (written_hex d image out).number 0) _ out (ap (λ r. eqb r.number 0) e ∙ ne_eqb n 0 nz));
-      }
-
-  pub wrote_13 : (r : WrittenHex) → r ≡ refused_with 13 → (number ≡ 0 → ⊥) → WroteHex d image out r out
-  unfolding written_hex
-  wrote_13 r q n =
-      rw q (refuses 13 (λ z. omega arith) (pick_false (device_ok d) _ _ (bad_of_judged d (λ z. n (judged ∙ z)))))
-
-  module _ (sound : number ≡ 0) where
-    ok : device_ok d ≡ true
-    ok = ok_of_judged d (sym judged ∙ sound)
-
-    pub wrote_20 : (b : Bool) (r : WrittenHex) → b ≡ image_ok d.words image → b ≡ false → r ≡ refused_with 20 → WroteHex d image out r out
-    unfolding written_hex pick
-    wrote_20 b r e f q = rw q (refuses 20 (λ z. omega arith) (rw (ok, ← e, f)))
-
-    module _ (b : Bool) (image_is : b ≡ image_ok d.words image) (t : b ≡ true) (n : ℕ) (long : n ≡ length (hex_text d.words image)) where
-      pub wrote_26 : (r : WrittenHex) → length out < n → r ≡ refused_with 26 → WroteHex d image out r out
-      unfolding written_hex pick
-      wrote_26 r h q = rw q (refuses 26 (λ z. omega arith) (rw (ok, ← image_is, t, ← long, lt-leb n (length out) h)))
-
-      answers : n ≤ length out → record { number = 0; length = n } ≡ written_hex d image out
-      unfolding written_hex pick
-      answers h = rw (ok, ← image_is, t, ← long, le-leb n (length out) h)
-
-      pub wrote_0 : (after : List ℕ) → n ≤ length out → after ≡ sets out 0 (hex_text d.words image) → WroteHex d image out (record { number = 0; length = n }) after
-      unfolding written_out
-      wrote_0 after h w =
-          record {
-            answer = answers h;
-            bytes = w ∙ sym (pick_true (eqb (written_hex d image out).number 0) _ out (ap (λ r. eqb r.number 0) (sym (answers h))));
-          }

@@ -2,7 +2,7 @@
 use Prim.Native.Nat.{ℕ, zero, suc, ◌+◌, ◌-◌, ◌*◌, ◌/◌, ◌%◌, ◌≤◌, ◌<◌}
 use native.Mathlib.Omega.{arith}
 use Rattle.std.proofs.Math.Decide.{dec_lt, ℕ_discrete}
-use Rattle.std.specs.Prelude.{◌≡◌, refl, List, [], ◌∷◌, ◌++◌, length, get_or, take, drop}
+use Rattle.std.specs.Prelude.{◌≡◌, refl, Option, Some, None, List, [], ◌∷◌, ◌++◌, length, get_or, take, drop}
 use Rattle.std.proofs.Common.{ap, ◌∙◌, length-drop, length-take-le}
 use Rattle.std.proofs.lemmas.List.{get_or-take, get_or-drop}
 use borrow.Author.Tests.{lt-ltb, le-ltb, eq-eqb, ne_eqb}
@@ -13,8 +13,6 @@ use Rattle.words.specs.Address.{config_base, address_of, place_of, doubled}
 use Rattle.words.specs.LawsAddress.{place_of_lem, address_program, address_config}
 use Rattle.words.specs.declared.ByteAddress.{ByteAddress}
 use Rattle.words.specs.declared.WordAddress.{WordAddress}
-use Rattle.words.specs.declared.Place.{Place}
-use Rattle.words.specs.declared.Place.TheVariants.{At, Nowhere}
 use Rattle.device.specs.Record.{most_words}
 use Rattle.device.specs.Memory.{reading_tail}
 use Rattle.hexwrite.specs.Writer.{sum_of, digits_of, record_text, hex_address, upper_of, word_bytes, data_bytes, upper_bytes, run_text, upper_after, run_end, next_start}
@@ -63,21 +61,21 @@ upper_rises words i j m p h = by (dec_lt i words)
 
 -- the code's way: the entry's place, and its byte address
 module _ {words i : ℕ} (m : words ≤ most_words) (h : i < words + reading_tail) where
-  pub address_at : {p : Place} {a : WordAddress} {r : ByteAddress} → p ≡ At a → p ≡ place_of config_base words reading_tail i → r ≡ doubled a → Addressed words i r
+  pub address_at : {p : Option WordAddress} {a : WordAddress} {r : ByteAddress} → p ≡ Some a → p ≡ place_of config_base words reading_tail i → r ≡ doubled a → Addressed words i r
   unfolding doubled
   address_at {p} {a} {r} t e d = record { is = here; below = rw here (hex_below words i m (omega arith)) }
     where
       same : a ≡ record { 0 = address_of config_base words i }
       same =
-          let q : place_of config_base words reading_tail i ≡ At (record { 0 = address_of config_base words i }) = place_of_lem config_base words reading_tail i (omega arith) (omega arith) h in
+          let q : place_of config_base words reading_tail i ≡ Some (record { 0 = address_of config_base words i }) = place_of_lem config_base words reading_tail i (omega arith) (omega arith) h in
           cc
 
       here : r.0 ≡ hex_address words i
       here = ap (λ x. x.0) d ∙ (ap (λ x. 2 * x.0) same ∙ (unfold hex_address in refl))
 
-  pub address_nowhere : {p : Place} {r : ByteAddress} → p ≡ Nowhere → p ≡ place_of config_base words reading_tail i → Addressed words i r
+  pub address_nowhere : {p : Option WordAddress} {r : ByteAddress} → p ≡ None → p ≡ place_of config_base words reading_tail i → Addressed words i r
   address_nowhere {p} {r} t e =
-      let q : place_of config_base words reading_tail i ≡ At (record { 0 = address_of config_base words i }) = place_of_lem config_base words reading_tail i (omega arith) (omega arith) h in
+      let q : place_of config_base words reading_tail i ≡ Some (record { 0 = address_of config_base words i }) = place_of_lem config_base words reading_tail i (omega arith) (omega arith) h in
       let z : ◌≡◌ {A = ℕ} 0 1 = cc in
       absurd (omega arith)
 

@@ -1,16 +1,12 @@
 -- Laws of a run's end: runs that are taken one by one give the text that entry after entry gives.
-use Prim.Native.Nat.{ℕ, zero, suc, ◌+◌, ◌-◌, ◌*◌, ◌/◌, ◌%◌, ◌≤◌, ◌<◌}
+use Prim.Native.Nat.{ℕ, suc, ◌+◌, ◌-◌, ◌*◌, ◌/◌, ◌%◌, ◌≤◌, ◌<◌}
 use native.Mathlib.Omega.{arith}
 use Rattle.std.proofs.Math.Decide.{dec_lt, ℕ_discrete}
-use Rattle.std.specs.Prelude.{◌≡◌, ◌==◌, refl, ◌⊎◌, Bool, true, false, not, List, [], ◌++◌, length, get_or, take, drop, min}
-use Rattle.std.specs.List.{prefix_len, take_while}
-use Rattle.std.proofs.lemmas.List.{get_or-take, get_or-drop}
-use Rattle.std.proofs.lemmas.List.Folds.{length-prefix_len}
-use Rattle.std.proofs.lemmas.List.Sums.{prefix_len-le-length, prefix_len_passes, prefix_len_stops}
+use Rattle.std.specs.Prelude.{◌≡◌, ◌==◌, ◌⊎◌, Bool, true, false, not, List, [], ◌++◌, length, get_or, min}
 use borrow.Author.Tests.{eq-eqb, eqb-true}
 use Rattle.words.specs.LawsChoice.{true_not_false}
 use Rattle.words.specs.LawsTests.{not_holds, not_fails}
-use Rattle.std.proofs.Common.{sym, ap, ◌∙◌, inl, inr, ⊎_elim, append-nil, length-drop, length-take-le}
+use Rattle.std.proofs.Common.{sym, ap, ◌∙◌, inl, inr, ⊎_elim, append-nil}
 use Rattle.words.specs.Word.{not_given}
 use Rattle.hexwrite.specs.Writer.{run_text, upper_after, text_from}
 use Rattle.hexwrite.specs.LawsWriteRun.{run_none, after_none, Cut, cut_gap, cut_full, cut_none}
@@ -72,13 +68,13 @@ pub record RunTo (image : List ℕ) (start r : ℕ) : Type 0 where
   pub text : (words upper : ℕ) → text_from words image (length image - start) upper start start ≡ run_text words image upper start r ++ text_from words image (length image - r) (upper_after words upper start r) r r
 
 -- the entries from start up to i are given and in one block
-record Going (image : List ℕ) (start stop i : ℕ) : Type 0 where
-  low : start < i
-  high : i ≤ stop
-  given : get_or image (i - 1) 0 ≡ not_given → ⊥
-  text : (words upper : ℕ) → text_from words image (length image - start) upper start start ≡ text_from words image (length image - (i - 1)) upper start (i - 1)
+pub record Going (image : List ℕ) (start stop i : ℕ) : Type 0 where
+  pub low : start < i
+  pub high : i ≤ stop
+  pub given : get_or image (i - 1) 0 ≡ not_given → ⊥
+  pub text : (words upper : ℕ) → text_from words image (length image - start) upper start start ≡ text_from words image (length image - (i - 1)) upper start (i - 1)
 
-going_first : (image : List ℕ) (start stop : ℕ) → BlockStop start (length image) stop → (get_or image start 0 ≡ not_given → ⊥) → Going image start stop (start + 1)
+pub going_first : (image : List ℕ) (start stop : ℕ) → BlockStop start (length image) stop → (get_or image start 0 ≡ not_given → ⊥) → Going image start stop (start + 1)
 going_first image start stop b g =
     let here : start + 1 - 1 ≡ start = omega arith in
     record { low = omega arith; high = omega arith; given = rw here g; text = λ words upper. rw here }
@@ -93,12 +89,12 @@ module _ (image : List ℕ) (start stop i : ℕ) (b : BlockStop start (length im
       (i - 1 + 1) = text_goes words image (length image) upper start (i - 1) (omega arith) go.given (λ q. omega arith) in
       go.text words upper ∙ (rw last_entry at z)
 
-  going_on : i < stop → (get_or image i 0 ≡ not_given → ⊥) → Going image start stop (i + 1)
+  pub going_on : i < stop → (get_or image i 0 ≡ not_given → ⊥) → Going image start stop (i + 1)
   going_on h g =
       let here : i + 1 - 1 ≡ i = omega arith in
       record { low = omega arith; high = omega arith; given = rw here g; text = λ words upper. rw here (held h words upper) }
 
-  run_gap : i < stop → get_or image i 0 ≡ not_given → RunTo image start i
+  pub run_gap : i < stop → get_or image i 0 ≡ not_given → RunTo image start i
   run_gap h g =
       record {
         more = go.low;
@@ -129,7 +125,7 @@ module _ (image : List ℕ) (start stop i : ℕ) (b : BlockStop start (length im
       ∙ (text_end words image (length image) upper start i (omega arith)
       ∙ (sym (append-nil (run_text words image upper start i)) ∙ ap (λ t. run_text words image upper start i ++ t) (sym nothing))))
 
-  run_whole : stop ≤ i → RunTo image start i
+  pub run_whole : stop ≤ i → RunTo image start i
   run_whole h = record { more = go.low; short = omega arith; inside = omega arith; text = by (ℕ_discrete (i % 8) 0) }
     where
       by : Dec (i % 8 ≡ 0) → (words upper : ℕ) → text_from words image (length image - start) upper start start ≡ run_text words image upper start i ++ text_from words image (length image - i) (upper_after words upper start i) i i
@@ -145,37 +141,3 @@ is_given w t e = true_not_false (eq-eqb w not_given e) (not_holds (w == not_give
 
 pub not_one : (w : ℕ) → given w ≡ false → w ≡ not_given
 not_one w f = eqb-true w not_given (not_fails (w == not_given) f)
-
--- of the entries of the block the first n are given, and no more
-module _ (image : List ℕ) (start stop : ℕ) (b : BlockStop start (length image) stop) (g : get_or image start 0 ≡ not_given → ⊥) where
-  going : (m : ℕ) → start + suc m ≤ stop → ((k : ℕ) → k < suc m → get_or image (start + k) 0 ≡ not_given → ⊥) → Going image start stop (start + suc m)
-  going zero h given = let e : start + 1 ≡ start + suc zero = refl in rw (← e) (going_first image start stop b g)
-  going (suc m) h given =
-      let e : start + suc m + 1 ≡ start + suc (suc m) = omega arith in
-      rw (← e) (going_on image start stop (start + suc m) b (going m (omega arith) (λ k l. given k (omega arith))) (omega arith) (given (suc m) (omega arith)))
-
-  run_ends : (n : ℕ) → Dec (n ≡ 0) → Dec (start + n < stop) → start + n ≤ stop → ((k : ℕ) → k < n → get_or image (start + k) 0 ≡ not_given → ⊥)
-      → (start + n < stop → get_or image (start + n) 0 ≡ not_given) → RunTo image start (start + n)
-  run_ends zero p (yes q) h given ends = let e : start + 0 ≡ start = omega arith in absurd (g (rw e at (ends q)))
-  run_ends zero p (no q) h given ends = absurd (omega (arith, b.more))
-  run_ends (suc m) p (yes q) h given ends = run_gap image start stop (start + suc m) b (going m h given) q (ends q)
-  run_ends (suc m) p (no q) h given ends = run_whole image start stop (start + suc m) b (going m h given) (omega arith)
-
-  block : List ℕ
-  block = take (stop - start) (drop start image)
-
-  size : length block ≡ stop - start
-  unfolding block
-  size = length-take-le (stop - start) (drop start image) (let d : length (drop start image) ≡ length image - start = length-drop start image in omega (arith, b.inside))
-
-  entry : (k : ℕ) → k < stop - start → get_or block k 0 ≡ get_or image (start + k) 0
-  unfolding block
-  entry k h = get_or-take (stop - start) (drop start image) k 0 h ∙ get_or-drop start image k 0
-
-  pub run_to : (n : ℕ) → n ≡ length (take_while (λ w. not (w == not_given)) (take (stop - start) (drop start image))) → RunTo image start (start + n)
-  unfolding block
-  run_to n e = rw (e ∙ length-prefix_len given block) (run_ends (prefix_len given block) (ℕ_discrete _ 0) (dec_lt _ stop) (omega (arith, size, few, b.more)) (λ k h. is_given _ (rw (← entry k (omega (arith, size, few))) (prefix_len_passes given block k 0 h)))
-      (λ h. not_one _ (rw (← entry (prefix_len given block) (omega (arith, size, few))) (prefix_len_stops given block 0 (omega (arith, size, few))))))
-    where
-      few : prefix_len given block ≤ length block
-      few = prefix_len-le-length given block

@@ -8,3 +8,4 @@ pub mod LawsWriteText
 pub mod LawsWritePut
 pub mod LawsWriteRecords
 pub mod LawsWriter
+pub mod LawsAnswer

@@ -1,6 +1,8 @@
 -- Writing an image as HEX text ('HEX text'; refusals 13, 20, 26).
-use Rattle.std.specs.Prelude.{ℕ, zero, suc, ◌+◌, ◌-◌, ◌*◌, ◌/◌, ◌%◌, ◌≡◌, List, [], ◌∷◌, ◌++◌, ltb, leb, eqb, length, get_or}
+use Rattle.std.specs.Prelude.{ℕ, zero, suc, ◌+◌, ◌-◌, ◌*◌, ◌/◌, ◌%◌, ◌≡◌, Result, List, [], ◌∷◌, ◌++◌, ltb, leb, eqb, length, get_or}
 use Rattle.std.proofs.lemmas.List.Edits.{sets}
+use Rattle.refusal.specs.Refusal.{number_in, value_in}
+use Rattle.refusal.specs.declared.Refusal.{Refusal}
 use Rattle.words.specs.Choice.{pick, unless}
 use Rattle.words.specs.Word.{not_given}
 use Rattle.numerals.specs.Text.{lf}
@@ -9,7 +11,6 @@ use Rattle.words.specs.Address.{config_base, address_of}
 use Rattle.device.specs.declared.Device.{Device}
 use Rattle.device.specs.Record.{device_ok}
 use Rattle.device.specs.Memory.{reading_tail, image_ok}
-use Rattle.hexwrite.specs.declared.WrittenHex.{WrittenHex}
 
 -- ---- a record
 
@@ -82,6 +83,15 @@ unfoldable pub hex_text : (words : ℕ) → List ℕ → List ℕ
 hex_text words image = text_from words image (words + reading_tail) 0 0 0 ++ record_text end_bytes
 
 -- ---- the call: 13, 20, 26
+
+-- the length of the text that was written; or 13, 20 or 26, and nothing else
+pub record WrittenHex : Type 0 where
+  pub number : ℕ
+  pub length : ℕ
+
+-- an answer, told so
+abbrev pub written_told : Result ℕ Refusal → WrittenHex
+written_told r = record { number = number_in r; length = value_in 0 r }
 
 unfoldable pub written_hex : Device → (image out : List ℕ) → WrittenHex
 written_hex d image out =

@@ -1,5 +1,5 @@
-// Where the next run stands.
-ghost use Rattle.std.specs.Prelude.{◌≡◌, ◌==◌, ◌+◌, ◌≤◌, ◌<◌, not, length, get_or, position, take_while};
+// Where the next run of an image stands.
+ghost use Rattle.std.specs.Prelude.{◌≡◌, ◌==◌, ◌+◌, ◌≤◌, ◌<◌, not, length, get_or, position};
 ghost use Rattle.words.specs.Word.{not_given};
 ghost use Rattle.device.specs.Record.{most_words};
 ghost use Rattle.device.specs.Memory.{reading_tail};
@@ -7,25 +7,29 @@ ghost use Rattle.hexwrite.specs.LawsWrite.{Addressed};
 ghost use Rattle.hexwrite.specs.LawsWriteStop.{BlockStop, RunTo};
 ghost use Rattle.hexwrite.specs.LawsNextRun.{NextRun};
 
+use crate::image::Image;
 use crate::run::Run;
 use device::READING_TAIL;
-use words::{ByteAddress, CONFIG_BASE, NOT_GIVEN, Place, WordAddress};
+use words::{ByteAddress, CONFIG_BASE, NOT_GIVEN, WordAddress};
 
 // An aligned block of sixteen bytes, in words.
 const BLOCK: usize = 8;
 
-// The first run of an image that begins at an entry or after it.
-pub(crate) fn next_run<'a>(words: u16, image: &'a [u16], from: usize) -> Option<Run<'a>>
-    requires { (words ≤ most_words) × (length image.now ≡ words + reading_tail) × (from ≤ length image.now) }
-    ensures { NextRun words image.now from result }
-{
-    let start = from + first_given(&image[from..])?;
-    let stop = run_stop(image, start);
-    Some(Run {
-        words: &image[start..stop],
-        stop,
-        address: hex_address(words, start),
-    })
+impl<'a> Image<'a> {
+    // The first run that begins at an entry or after it.
+    pub(crate) fn next_run(&self, from: usize) -> Option<Run<'a>>
+        requires { from ≤ length self.now.entries.now }
+        ensures { NextRun self.now.words self.now.entries.now from result }
+    {
+        let entries = self.entries;
+        let start = from + first_given(&entries[from..])?;
+        let stop = run_stop(entries, start);
+        Some(Run {
+            words: &entries[start..stop],
+            stop,
+            address: hex_address(self.words, start),
+        })
+    }
 }
 
 // The end of the run that begins at an entry: the next entry that is not given, or the end of the block or of the image.
@@ -34,7 +38,12 @@ fn run_stop(image: &[u16], start: usize) -> usize
     ensures { RunTo image.now start result }
 {
     let end = block_stop(start, image.len());
-    start + count_given(&image[start..end])
+    for i in start + 1..end {
+        if image[i] == NOT_GIVEN {
+            return i;
+        }
+    }
+    end
 }
 
 // Where the first given word stands.
@@ -42,13 +51,6 @@ fn first_given(words: &[u16]) -> Option<usize>
     ensures { result ≡ position (λ w. not (w == not_given)) words.now }
 {
     words.iter().position(|word| *word != NOT_GIVEN)
-}
-
-// How many words are given before one that is not.
-fn count_given(words: &[u16]) -> usize
-    ensures { result ≡ length (take_while (λ w. not (w == not_given)) words.now) }
-{
-    words.iter().take_while(|word| **word != NOT_GIVEN).count()
 }
 
 // The end of the block that an entry stands in, or of all entries.
@@ -65,7 +67,7 @@ fn hex_address(words: u16, entry: usize) -> ByteAddress
     ensures { Addressed words entry result }
 {
     match words::address::address_of(WordAddress(CONFIG_BASE), words, READING_TAIL as u8, entry) {
-        Place::At(a) => words::address::double(a),
-        Place::Nowhere => ByteAddress(0),
+        Some(a) => words::address::double(a),
+        None => ByteAddress(0),
     }
 }

@@ -1,28 +1,16 @@
 -- A law for each way out.
-use Rattle.hexwrite.specs.LawsWritePut.{judged_sound, text_room, wrote_13, wrote_20, wrote_26, wrote_0}
+use Rattle.std.proofs.lemmas.Result.{err_from_is_err_and}
+use Rattle.hexwrite.specs.LawsAnswer.{wrote_refusal, wrote_26, wrote_0}
 use Rattle.hexwrite.proofs.write.write_hex.Goals as goal
 
-pub returns-then-judge-ne0 : goal.returns-then-judge-ne0
-returns-then-judge-ne0 c = wrote_13 _ _ _ _ c.judge.ensures _ c.refusal.ensures c.if-judge-ne0.true
-
-pub returns-then-not-is_image : goal.returns-then-not-is_image
-returns-then-not-is_image c = wrote_20 _ _ _ _ c.judge.ensures c.if-judge-ne0.false _ _ c.is_image.ensures
-    c.if-not-is_image.true c.refusal-then-not-is_image.ensures
-
-pub text_length-length-requires : goal.text_length-length-requires
-text_length-length-requires c = judged_sound _ _ _ _ c.judge.ensures c.if-judge-ne0.false c.is_image.ensures c.if-not-is_image.false
+pub returns-in_err-image : goal.returns-in_err-image
+returns-in_err-image c = let p = err_from_is_err_and c.from_residual.result c.from_residual.ensures.1 in
+    rw (p.1, p.2) (wrote_refusal _ _ _ _ (c.in_err-image.ensures _))
 
 pub returns-then-out-length : goal.returns-then-out-length
-returns-then-out-length c = wrote_26 _ _ _ _ c.judge.ensures c.if-judge-ne0.false _
-    c.is_image.ensures c.if-not-is_image.false _ c.text_length-length.ensures _ c.if-out-length.true c.refusal-then-out-length.ensures
-
-pub put_text-requires : goal.put_text-requires
-put_text-requires c = let s = judged_sound _ _ _ _ c.judge.ensures
-    c.if-judge-ne0.false c.is_image.ensures c.if-not-is_image.false in
-    (s.0, s.1, text_room c.text_length-length.ensures c.if-out-length.false)
+returns-then-out-length c = let e = c.in_ok-image.ensures in
+    wrote_26 _ _ _ e.0 e.1 _ (rw (e.2, e.3) at c.text_length-length.ensures) c.if-out-length.true
 
 pub returns : goal.returns
-returns c = wrote_0 _ _ _ _ c.judge.ensures
-    c.if-judge-ne0.false _ c.is_image.ensures
-    c.if-not-is_image.false _ c.text_length-length.ensures _
-    c.if-out-length.false c.put_text.ensures
+returns c = let e = c.in_ok-image.ensures in
+    wrote_0 _ _ _ e.0 e.1 _ (rw (e.2, e.3) at c.text_length-length.ensures) _ c.if-out-length.false (rw (e.2, e.3) at c.put_text.ensures)

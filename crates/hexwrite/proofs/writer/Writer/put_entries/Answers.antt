@@ -3,7 +3,7 @@ use Rattle.hexwrite.specs.LawsWritePut.{turn_first, turn_room, turn_on, turn_don
 use Rattle.hexwrite.proofs.writer.Writer.put_entries.Goals as goal
 
 pub loop-run-init : goal.loop-run-init
-loop-run-init c = turn_first _ _ _ c.requires.1 c.requires.2
+loop-run-init c = turn_first _ _ _ c.args.image.now.long c.requires
 
 pub put_run-requires : goal.put_run-requires
 put_run-requires c = turn_room _ _ _ _ _ _ c.loop-run.invariant _ c.in-Some.ensures

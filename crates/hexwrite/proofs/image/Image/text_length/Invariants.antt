@@ -2,10 +2,10 @@
 use Prim.Native.Nat.{◌-◌}
 use lib.ListN.{length}
 use Rattle.hexwrite.specs.LawsWriteText.{Counted}
-use Rattle.hexwrite.proofs.write.text_length.Given as goal
+use Rattle.hexwrite.proofs.image.Image.text_length.Given as goal
 
 abbrev pub invariant-loop-run : goal.invariant-loop-run
-invariant-loop-run l = Counted l.words l.image l.total l.upper l.at
+invariant-loop-run l = Counted l.self.words l.self.entries.now l.total l.upper l.at
 
 abbrev pub decreases-loop-run : goal.decreases-loop-run
-decreases-loop-run l = length l.image - l.at
+decreases-loop-run l = length l.self.entries.now - l.at
