@@ -12,13 +12,14 @@ use Rattle.std.proofs.Math.ListN.{length, take, length-drop}
 use Rattle.std.proofs.Math.Seq.{length-take-le}
 use borrow.Author.Tests.{ne_eqb, le-leb, lt-leb}
 use Rattle.marks.specs.Marks.{index_of, slice}
-use Rattle.words.specs.Choice.{pick}
+use Rattle.words.specs.Choice.{pick, unless}
 use Rattle.words.specs.LawsChoice.{pick_true, pick_false, first_holds, second_holds, first_fails, second_fails, true_not_false}
 use Rattle.device.specs.declared.Device.{Device}
 use Rattle.numerals.specs.Text.{lf, split}
 use Rattle.numerals.specs.Decimal.{is_decimal}
 use Rattle.device.specs.Record.{most_words, device_ok, fits}
 use Rattle.numerals.specs.LawsText.{part, part_found, part_last, some_piece}
+use Rattle.table.specs.LawsPieces.{Parted, parted_length}
 use Rattle.table.specs.LawsLine.{LineRead}
 use Rattle.table.specs.Table.{but_last, last_of, field, name_ok, hex_ok, device_of, count_ok, line_up_to, table_lines, most_lines, ends_in_lf, lines_up_to, clash, clashes, ids_once, table_up_to, table_ok, table_number, has_id, line_with, start_of, refused, given, found_up_to, found_in}
 
@@ -79,6 +80,29 @@ pub left_all : (text : List ℕ) → table_ok text ≡ left_ok 0 (drop 0 text)
 unfolding table_ok table_up_to left_ok
 left_all text = rw (zero-add (length (table_lines text)))
 
+-- a line and what is left after it
+module _ (n : ℕ) (text l rest : List ℕ) (lines : table_lines text ≡ l ∷ table_lines rest) where
+  step_bad : line_up_to most_words l ≡ false → left_ok n text ≡ false
+  unfolding left_ok lines_up_to
+  step_bad f =
+      rw (lines, f)
+      (first_fails (chain && false) (ids_once (l ∷ table_lines rest)) (second_fails chain false refl))
+    where
+      chain : Bool
+      chain = ends_in_lf text && leb 1 (n + suc (length (table_lines rest))) && leb (n + suc (length (table_lines rest))) most_lines
+
+  step_clash : clashes (device_of l) (table_lines rest) ≡ true → left_ok n text ≡ false
+  unfolding left_ok ids_once
+  step_clash t =
+      rw (lines, t)
+      (second_fails (ends_in_lf text && leb 1 (n + suc (length (table_lines rest))) && leb (n + suc (length (table_lines rest))) most_lines && lines_up_to most_words (l ∷ table_lines rest)) false refl)
+
+  step_on : ends_in_lf text ≡ ends_in_lf rest → line_up_to most_words l ≡ true → clashes (device_of l) (table_lines rest) ≡ false → left_ok n text ≡ left_ok (n + 1) rest
+  unfolding left_ok lines_up_to ids_once
+  step_on ends t f =
+      let count : n + suc (length (table_lines rest)) ≡ n + 1 + length (table_lines rest) = omega arith in
+      rw (lines, ends, t, f, count)
+
 module _ (n : ℕ) (text : List ℕ) (from r : ℕ) (e : r ≡ from + index_of lf (slice from (length text) text)) (within : from < length text) where
   here : from ≤ length text
   here = omega arith
@@ -88,36 +112,18 @@ module _ (n : ℕ) (text : List ℕ) (from r : ℕ) (e : r ≡ from + index_of l
   left_no_end h = rw (ends_not text from r e here h within)
 
   module _ (h : r < length text) where
+    lines : table_lines (drop from text) ≡ take (r - from) (drop from text) ∷ table_lines (drop (r + 1) text)
+    lines = lines_more text from r e here h
+
     pub left_bad_line : line_up_to most_words (take (r - from) (drop from text)) ≡ false → left_ok n (drop from text) ≡ false
-    unfolding left_ok lines_up_to
-    left_bad_line f =
-        rw (lines_more text from r e here h, f)
-        (first_fails (chain && false) (ids_once (l ∷ rest)) (second_fails chain false refl))
-      where
-        l : List ℕ
-        l = take (r - from) (drop from text)
-
-        rest : List (List ℕ)
-        rest = table_lines (drop (r + 1) text)
-
-        chain : Bool
-        chain = ends_in_lf (drop from text) && leb 1 (n + suc (length rest)) && leb (n + suc (length rest)) most_lines
+    left_bad_line f = step_bad n _ _ _ lines f
 
     pub left_clash : clashes (device_of (take (r - from) (drop from text))) (table_lines (drop (r + 1) text)) ≡ true → left_ok n (drop from text) ≡ false
-    unfolding left_ok ids_once
-    left_clash t =
-        rw (lines_more text from r e here h, t)
-        (second_fails (ends_in_lf (drop from text) && leb 1 (n + suc (length rest)) && leb (n + suc (length rest)) most_lines && lines_up_to most_words (take (r - from) (drop from text) ∷ rest)) false refl)
-      where
-        rest : List (List ℕ)
-        rest = table_lines (drop (r + 1) text)
+    left_clash t = step_clash n _ _ _ lines t
 
     pub left_on : line_up_to most_words (take (r - from) (drop from text)) ≡ true → clashes (device_of (take (r - from) (drop from text))) (table_lines (drop (r + 1) text)) ≡ false
         → left_ok n (drop from text) ≡ left_ok (n + 1) (drop (r + 1) text)
-    unfolding left_ok lines_up_to ids_once
-    left_on t f =
-        let count : n + suc (length (table_lines (drop (r + 1) text))) ≡ n + 1 + length (table_lines (drop (r + 1) text)) = omega arith in
-        rw (lines_more text from r e here h, ends_more text from r e here h, t, f, count)
+    left_on t f = step_on n _ _ _ lines (ends_more text from r e here h) t f
 
 -- more than 64 lines
 pub left_many : (n : ℕ) (rest : List ℕ) → most_lines < n → left_ok n rest ≡ false
@@ -170,41 +176,63 @@ module _ (text : List ℕ) where
       by true q = absurd (q refl)
       by false q = refl
 
--- ---- the search for a clash
+-- ---- the lines one after another, as the code parts the text
 
-module _ (d : Device) (text : List ℕ) (from r : ℕ) (e : r ≡ from + index_of lf (slice from (length text) text)) (within : from < length text)
-    (so : clashes d (table_lines text) ≡ clashes d (table_lines (drop from text))) where
-  pub clash_no_end : length text ≤ r → false ≡ clashes d (table_lines text)
-  clash_no_end h = sym (so ∙ rw (lines_none text from r e (omega arith) h) (unfold clashes in refl))
+module _ (text line rest : List ℕ) (p : Parted lf text line rest) where
+  parted_lines : table_lines text ≡ line ∷ table_lines rest
+  unfolding table_lines
+  parted_lines = ap but_last p.pieces ∙ but_last_more lf line rest
 
-  module _ (h : r < length text) (given : Bool) (g : given ≡ clash d (device_of (take (r - from) (drop from text)))) where
-    more : table_lines (drop from text) ≡ take (r - from) (drop from text) ∷ table_lines (drop (r + 1) text)
-    more = lines_more text from r e (omega arith) h
+  parted_ends : ends_in_lf text ≡ ends_in_lf rest
+  unfolding ends_in_lf
+  parted_ends = ap (λ s. eqb (length (last_of s)) 0) p.pieces ∙ ap (λ s. eqb (length s) 0) (last_more lf line rest)
 
-    pub clash_here : given ≡ true → true ≡ clashes d (table_lines text)
-    clash_here t = sym (so ∙ rw more (unfold clashes in rw (sym g ∙ t)))
+  pub turn_bad : (n : ℕ) → line_up_to most_words line ≡ false → left_ok n text ≡ false
+  turn_bad n f = step_bad n text line rest parted_lines f
 
-    pub clash_on : given ≡ false → clashes d (table_lines text) ≡ clashes d (table_lines (drop (r + 1) text))
-    clash_on f = so ∙ rw more (unfold clashes in rw (sym g ∙ f))
+  module _ (n name : ℕ) (d : Device) (l : LineRead line name d) where
+    pub turn_clash : clashes d (table_lines rest) ≡ true → left_ok n text ≡ false
+    turn_clash t = step_clash n text line rest parted_lines (rw (← l.device) t)
 
-pub clash_none : (d : Device) (text : List ℕ) (from : ℕ) → clashes d (table_lines text) ≡ clashes d (table_lines (drop from text)) → length text ≤ from → false ≡ clashes d (table_lines text)
-clash_none d text from so h = sym (so ∙ rw (lines_end text from h) (unfold clashes in refl))
+    pub turn_on : clashes d (table_lines rest) ≡ false → left_ok n text ≡ left_ok (n + 1) rest
+    turn_on f = step_on n text line rest parted_lines parted_ends l.test (rw (← l.device) f)
+
+  module _ (d : Device) where
+    pub clash_here : clash d (device_of line) ≡ true → true ≡ clashes d (table_lines text)
+    unfolding clashes
+    clash_here t = rw (parted_lines, t)
+
+    pub clash_on : clash d (device_of line) ≡ false → clashes d (table_lines text) ≡ clashes d (table_lines rest)
+    unfolding clashes
+    clash_on f = rw (parted_lines, f)
+
+-- no line is left
+module _ (text : List ℕ) (w : split lf text ≡ text ∷ []) where
+  whole_lines : table_lines text ≡ []
+  unfolding table_lines but_last
+  whole_lines = rw w
+
+  whole_ends : ends_in_lf text ≡ eqb (length text) 0
+  unfolding ends_in_lf last_of
+  whole_ends = rw w
+
+  pub clash_none : (d : Device) → false ≡ clashes d (table_lines text)
+  unfolding clashes
+  clash_none d = rw whole_lines
+
+  pub end_few : (n : ℕ) → n < 1 → left_ok n text ≡ false
+  unfolding left_ok
+  end_few n h = rw (whole_lines, add-zero n, lt-leb 1 n h) (first_fails _ _ (first_fails _ _ (first_fails _ _ (second_fails (ends_in_lf text) false refl))))
+
+  pub end_rest : (n : ℕ) → 0 < length text → left_ok n text ≡ false
+  unfolding left_ok
+  end_rest n h = rw (whole_ends, ne_eqb (length text) 0 (λ q. omega arith))
+
+  pub end_good : (n : ℕ) → length text ≡ 0 → 1 ≤ n → n ≤ most_lines → left_ok n text ≡ true
+  unfolding left_ok lines_up_to ids_once
+  end_good n e p q = rw (whole_ends, whole_lines, e, add-zero n, le-leb 1 n p, le-leb n most_lines q)
 
 -- ---- the search for an ID
-
--- the lines from `from` on still hold what is looked for
-pub record Ahead (id : ℕ) (text : List ℕ) (from : ℕ) : Type 0 where
-  pub has : has_id id (table_lines text) ≡ has_id id (table_lines (drop from text))
-  pub start : start_of id (table_lines text) ≡ from + start_of id (table_lines (drop from text))
-  pub line : line_with id (table_lines text) ≡ line_with id (table_lines (drop from text))
-
--- what a search answers: whether the ID fits a line's device and, if it does, where the first such line stands
-pub record Sought (id : ℕ) (text : List ℕ) (found : Bool) (at stop : ℕ) : Type 0 where
-  pub has : found ≡ has_id id (table_lines text)
-  pub start : found ≡ true → at ≡ start_of id (table_lines text)
-  pub line : found ≡ true → take (stop - at) (drop at text) ≡ line_with id (table_lines text)
-  pub order : at ≤ stop
-  pub inside : stop ≤ length text
 
 module _ (id : ℕ) (l : List ℕ) (ls : List (List ℕ)) where
   module _ (e : fits (device_of l) id ≡ true) where
@@ -233,66 +261,6 @@ module _ (id : ℕ) (l : List ℕ) (ls : List (List ℕ)) where
     unfolding line_with pick
     line_later = rw n
 
-pub ahead_all : (id : ℕ) (text : List ℕ) → Ahead id text 0
-ahead_all id text = record { has = refl; start = sym (zero-add (start_of id (table_lines text))); line = refl }
-
-module _ (id : ℕ) (text : List ℕ) (from r : ℕ) (e : r ≡ from + index_of lf (slice from (length text) text)) (within : from < length text) (so : Ahead id text from) where
-  here₂ : from ≤ length text
-  here₂ = omega arith
-
-  pub sought_no_end : length text ≤ r → Sought id text false 0 0
-  sought_no_end h =
-      record {
-        has = sym (so.has ∙ (rw (lines_none text from r e here₂ h) (unfold has_id in refl)));
-        start = λ t. absurd (true_not_false t refl);
-        line = λ t. absurd (true_not_false t refl);
-        order = omega arith;
-        inside = omega arith;
-      }
-
-  module _ (h : r < length text) (given : Bool) (g : given ≡ fits (device_of (take (r - from) (drop from text))) id) where
-    l : List ℕ
-    l = take (r - from) (drop from text)
-
-    ls : List (List ℕ)
-    ls = table_lines (drop (r + 1) text)
-
-    pub sought_here : given ≡ true → Sought id text true from r
-    unfolding l ls
-    sought_here q =
-        let more : table_lines (drop from text) ≡ l ∷ ls = lines_more text from r e here₂ h in
-        let same : fits (device_of l) id ≡ true = sym g ∙ q in
-        record {
-          has = sym (so.has ∙ (ap (has_id id) more ∙ has_here id l ls same));
-          start = λ t. sym (so.start ∙ (ap (λ x. from + start_of id x) more ∙ (ap (λ n. from + n) (start_here id l ls same) ∙ add-zero from)));
-          line = λ t. sym (so.line ∙ (ap (line_with id) more ∙ line_here id l ls same));
-          order = omega arith;
-          inside = omega arith;
-        }
-
-    pub ahead_on : given ≡ false → Ahead id text (r + 1)
-    unfolding l ls
-    ahead_on q =
-        let more : table_lines (drop from text) ≡ l ∷ ls = lines_more text from r e here₂ h in
-        let other : fits (device_of l) id ≡ false = sym g ∙ q in
-        let long : length l ≡ r - from = length-take-le (r - from) (drop from text) (rw length-drop (omega arith)) in
-        let sum : from + (length l + 1 + start_of id ls) ≡ r + 1 + start_of id ls = omega arith in
-        record {
-          has = so.has ∙ (ap (has_id id) more ∙ has_later id l ls other);
-          start = so.start ∙ (ap (λ x. from + start_of id x) more ∙ (ap (λ n. from + n) (start_later id l ls other) ∙ sum));
-          line = so.line ∙ (ap (line_with id) more ∙ line_later id l ls other);
-        }
-
-pub sought_none : (id : ℕ) (text : List ℕ) (from : ℕ) → Ahead id text from → length text ≤ from → Sought id text false 0 0
-sought_none id text from so h =
-    record {
-      has = sym (so.has ∙ (rw (lines_end text from h) (unfold has_id in refl)));
-      start = λ t. absurd (true_not_false t refl);
-      line = λ t. absurd (true_not_false t refl);
-      order = omega arith;
-      inside = omega arith;
-    }
-
 -- ---- the record of an ID
 
 -- in a sound table every line is sound
@@ -316,24 +284,58 @@ module _ (text : List ℕ) (id : ℕ) where
   unfolding found_in found_up_to table_ok
   found_bad f = pick_false (table_ok text) _ _ f
 
-  pub found_none : table_ok text ≡ true → (found : Bool) (at stop : ℕ) → Sought id text found at stop → found ≡ false → found_in text id ≡ refused 16
-  unfolding found_in found_up_to table_ok
-  found_none t found at stop s f =
-      pick_true (table_ok text) _ _ t ∙ pick_false (has_id id (table_lines text)) _ _ (sym s.has ∙ f)
+-- the lines of a rest still hold what is looked for, and every one of them is sound
+pub record Ahead (text : List ℕ) (id : ℕ) (rest : List ℕ) : Type 0 where
+  pub sound : lines_up_to most_words (table_lines rest) ≡ true
+  pub within : length rest ≤ length text
+  pub found : found_in text id
+      ≡ unless (has_id id (table_lines rest)) (refused 16) (given (length text - length rest + start_of id (table_lines rest)) (line_with id (table_lines rest)))
 
-  pub found_here : table_ok text ≡ true → (found : Bool) (at stop : ℕ) → Sought id text found at stop → found ≡ true
-      → (ok : Bool) (name : ℕ) (d : Device) → LineRead (take (stop - at) (drop at text)) ok name d
-      → record { number = 0; device = d; name_at = at; name_len = name } ≡ found_in text id
-  unfolding found_in found_up_to table_ok given
-  found_here t found at stop s y ok name d l =
-      let has : has_id id (table_lines text) ≡ true = sym s.has ∙ y in
-      let sound : line_up_to most_words (line_with id (table_lines text)) ≡ true = line_with_ok id (table_lines text) (lines_ok text t) has in
-      let fine : ok ≡ true = l.test ∙ (ap (line_up_to most_words) (s.line y) ∙ sound) in
-      let dev : d ≡ device_of (line_with id (table_lines text)) = l.device fine ∙ ap device_of (s.line y) in
-      let nam : name ≡ length (field 0 (line_with id (table_lines text))) = l.named fine ∙ ap (λ x. length (field 0 x)) (s.line y) in
-      let start : at ≡ start_of id (table_lines text) = s.start y in
-      (λ i. record { number = 0; device = dev i; name_at = start i; name_len = nam i })
-      ∙ sym (pick_true (table_ok text) _ _ t ∙ pick_true (has_id id (table_lines text)) _ _ has)
+module _ (text : List ℕ) (id : ℕ) where
+  pub ahead_all : table_ok text ≡ true → Ahead text id text
+  unfolding found_in found_up_to table_ok
+  ahead_all t =
+      let start : length text - length text + start_of id (table_lines text) ≡ start_of id (table_lines text) = omega arith in
+      record {
+        sound = lines_ok text t;
+        within = omega arith;
+        found = pick_true (table_ok text) _ _ t ∙ (rw start);
+      }
+
+  module _ (rest : List ℕ) (so : Ahead text id rest) where
+    pub ahead_none : split lf rest ≡ rest ∷ [] → refused 16 ≡ found_in text id
+    unfolding has_id pick
+    ahead_none w = sym (so.found ∙ (rw (whole_lines rest w)))
+
+    module _ (line after : List ℕ) (p : Parted lf rest line after) where
+      both_sound : (line_up_to most_words line ≡ true) × (lines_up_to most_words (table_lines after) ≡ true)
+      unfolding lines_up_to
+      both_sound =
+          let e : (line_up_to most_words line && lines_up_to most_words (table_lines after)) ≡ true = rw (parted_lines rest line after p) at so.sound in
+          (first_holds _ _ e, second_holds (line_up_to most_words line) _ e)
+
+      pub ahead_sound : line_up_to most_words line ≡ false → ⊥
+      ahead_sound f = true_not_false both_sound.0 f
+
+      pub ahead_here : (name : ℕ) (d : Device) → LineRead line name d → fits d id ≡ true
+          → record { number = 0; device = d; name_at = length text - length rest; name_len = name } ≡ found_in text id
+      unfolding given pick
+      ahead_here name d l y =
+          let fit : fits (device_of line) id ≡ true = rw (← l.device) y in
+          let place : length text - length rest + 0 ≡ length text - length rest = omega arith in
+          sym (so.found ∙ (rw (parted_lines rest line after p, has_here id line (table_lines after) fit, start_here id line (table_lines after) fit, line_here id line (table_lines after) fit, ← l.device, ← l.named, place)))
+
+      pub ahead_on : (name : ℕ) (d : Device) → LineRead line name d → fits d id ≡ false → Ahead text id after
+      ahead_on name d l n =
+          let other : fits (device_of line) id ≡ false = rw (← l.device) n in
+          let long : length line + 1 + length after ≡ length rest = parted_length lf rest line after p in
+          let within : length rest ≤ length text = so.within in
+          let place : length text - length rest + (length line + 1 + start_of id (table_lines after)) ≡ length text - length after + start_of id (table_lines after) = omega arith in
+          record {
+            sound = both_sound.1;
+            within = omega arith;
+            found = so.found ∙ (rw (parted_lines rest line after p, has_later id line (table_lines after) other, start_later id line (table_lines after) other, line_later id line (table_lines after) other, place));
+          }
 
 -- the device of a sound line keeps the rules of a record
 pub line_device : (line : List ℕ) → line_up_to most_words line ≡ true → device_ok (device_of line) ≡ true
@@ -350,27 +352,6 @@ found_sound text id t has =
     let same : found_in text id ≡ given (start_of id (table_lines text)) (line_with id (table_lines text)) = pick_true (table_ok text) _ _ t ∙ pick_true (has_id id (table_lines text)) _ _ has in
     ap (λ x. device_ok x.device) same
     ∙ (unfold given in line_device (line_with id (table_lines text)) (line_with_ok id (table_lines text) (lines_ok text t) has))
-
--- ---- one turn of the table's test, by what the code's parts answer
-
--- the rest of a text, as the code cuts it
-rest_of : (text : List ℕ) (k : ℕ) → take (length text - k) (drop k text) ≡ drop k text
-rest_of text k = take_all (length text - k) (drop k text) (rw length-drop (omega arith))
-
-module _ (n : ℕ) (text : List ℕ) (from r : ℕ) (e : r ≡ from + index_of lf (slice from (length text) text)) (within : from < length text) (h : r < length text)
-    (ok : Bool) (name : ℕ) (d : Device) (l : LineRead (take (r - from) (drop from text)) ok name d) where
-  pub turn_bad : ok ≡ false → left_ok n (drop from text) ≡ false
-  turn_bad f = left_bad_line n text from r e within h (sym l.test ∙ f)
-
-  module _ (y : ok ≡ true) (found : Bool) (s : found ≡ clashes d (table_lines (take (length text - (r + 1)) (drop (r + 1) text)))) where
-    clash_is : found ≡ clashes (device_of (take (r - from) (drop from text))) (table_lines (drop (r + 1) text))
-    clash_is = s ∙ (ap (λ x. clashes d (table_lines x)) (rest_of text (r + 1)) ∙ ap (λ x. clashes x (table_lines (drop (r + 1) text))) (l.device y))
-
-    pub turn_clash : found ≡ true → left_ok n (drop from text) ≡ false
-    turn_clash t = left_clash n text from r e within h (sym clash_is ∙ t)
-
-    pub turn_on : found ≡ false → left_ok n (drop from text) ≡ left_ok (n + 1) (drop (r + 1) text)
-    turn_on f = left_on n text from r e within h (sym l.test ∙ y) (sym clash_is ∙ f)
 
 -- a table without a line
 pub table_empty : 15 ≡ table_number []

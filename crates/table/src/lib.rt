@@ -2,6 +2,7 @@
 #![tactic(auto)]
 
 mod line;
+mod pieces;
 mod table;
 
 use device::Device;

@@ -1,289 +1,161 @@
 // One line of a device table: six or seven fields parted by tabs.
-ghost use Rattle.std.specs.Prelude.{◌≡◌, true, false, leb, length};
-ghost use Rattle.device.specs.Record.{fits};
-ghost use Rattle.table.specs.Table.{name_ok, hex_field, id_of, id_mask_of, device_of, clash};
-ghost use Rattle.table.specs.LawsLine.{after, mask_in, Tabbed, Cut, Made, LineRead};
+ghost use Rattle.std.specs.Prelude.{◌≡◌, false, ◌+◌, MatchOption};
+ghost use Rattle.std.specs.List.{list_all};
+ghost use Rattle.device.specs.Record.{most_words};
+ghost use Rattle.numerals.specs.Decimal.{decimal_of};
+ghost use Rattle.table.specs.Table.{name_ok, hex_field, id_of, id_mask_of, device_of, clash, line_up_to};
+ghost use Rattle.table.specs.LawsLine.{below, six_or_seven, printable, Seven, NotMade, Made, LineRead};
 
+use crate::pieces::split_once;
 use device::{Device, MOST_WORDS, judge};
-use words::{ERASED, WORD_LIMIT};
 
-// Where the first five tabs of a line stand and where its sixth field ends, if it has six fields or seven.
+// The fields of a line, each as it stands there; a line of six has the text of every bit for the ID's mask.
 #[derive(Clone, Copy)]
-pub(crate) struct Tabs {
-    pub ok: bool,
-    pub a: usize,
-    pub b: usize,
-    pub c: usize,
-    pub d: usize,
-    pub e: usize,
-    pub f: usize,
+struct Fields<'a> {
+    name: &'a [u8],
+    id: &'a [u8],
+    words: &'a [u8],
+    row: &'a [u8],
+    mask1: &'a [u8],
+    mask2: &'a [u8],
+    idmask: &'a [u8],
 }
 
-// A device, if the numbers that it was made of keep the rules.
-#[derive(Clone, Copy)]
-pub(crate) struct Maybe {
-    pub ok: bool,
-    pub device: Device,
-}
-
-// What a line gives: a device and the length of its name, if the line keeps every rule.
+// What a line gives: a device, and the length of its name.
 #[derive(Clone, Copy)]
 pub(crate) struct Line {
-    pub ok: bool,
     pub name: usize,
     pub device: Device,
 }
 
-const TAB: u8 = 9;
+const TAB: u8 = b'\t';
 
-const NO_TABS: Tabs = Tabs {
-    ok: false,
-    a: 0,
-    b: 0,
-    c: 0,
-    d: 0,
-    e: 0,
-    f: 0,
-};
+const EVERY_BIT: &[u8] = b"3FFF";
 
-pub(crate) fn read_line(line: &[u8]) -> Line
-    ensures { LineRead line.now result.ok result.name result.device }
+// What a line gives, if it keeps every rule.
+pub(crate) fn read_line(line: &[u8]) -> Option<Line>
+    ensures { MatchOption result (line_up_to most_words line.now ≡ false) (λ l. LineRead line.now l.name l.device) }
 {
-    let t = cut(line);
-    if t.ok {
-        read_fields(line, t.a, t.b, t.c, t.d, t.e, t.f)
-    } else {
-        no_line()
+    let fields = cut(line)?;
+    if !is_name(fields.name) {
+        return None;
     }
-}
-
-// The fields, between the tabs.
-fn read_fields(line: &[u8], a: usize, b: usize, c: usize, d: usize, e: usize, f: usize) -> Line
-    requires { Tabbed line.now a b c d e f }
-    ensures { LineRead line.now result.ok result.name result.device }
-{
-    if is_name(&line[..a]) {} else {
-        return no_line();
-    }
-    let id = hex_field(&line[a + 1..b]);
-    let words = numerals::decimal::read(&line[b + 1..c], MOST_WORDS as u32);
-    let row = numerals::decimal::read(&line[c + 1..d], 32);
-    let mask1 = hex_field(&line[d + 1..e]);
-    let mask2 = hex_field(&line[e + 1..f]);
-    let idmask = mask_after(line, f);
-    let m = device_of(id, words, row, mask1, mask2, idmask);
-    let device = m.device;
-    Line {
-        ok: m.ok,
-        name: a,
+    let device = device_of(fields)?;
+    Some(Line {
+        name: fields.name.len(),
         device,
-    }
+    })
 }
 
-// The ID that a line gives; 65,536 if its second field is not four capital hex digits.
-fn line_id(line: &[u8]) -> u32
-    ensures { result ≡ id_of line.now }
+// The fields of a line, if it has six or seven.
+fn cut(line: &[u8]) -> Option<Fields<'_>>
+    ensures { MatchOption result (six_or_seven line.now ≡ false) (λ f. Seven line.now f.name.now f.id.now f.words.now f.row.now f.mask1.now f.mask2.now f.idmask.now) }
 {
-    let a = marks::find(line, 0, line.len(), TAB);
-    if line.len() <= a {
-        return 65536;
+    let (name, rest) = split_once(line, TAB)?;
+    let (id, rest) = split_once(rest, TAB)?;
+    let (words, rest) = split_once(rest, TAB)?;
+    let (row, rest) = split_once(rest, TAB)?;
+    let (mask1, rest) = split_once(rest, TAB)?;
+    let (mask2, idmask) = split_once(rest, TAB).unwrap_or((rest, EVERY_BIT));
+    if split_once(idmask, TAB).is_some() {
+        return None;
     }
-    let b = marks::find(line, a + 1, line.len(), TAB);
-    hex_field(&line[a + 1..b])
+    Some(Fields {
+        name,
+        id,
+        words,
+        row,
+        mask1,
+        mask2,
+        idmask,
+    })
 }
 
-// The ID's mask that a line gives: the last of seven fields, and every bit of any other line.
-fn line_mask(line: &[u8]) -> u32
-    ensures { result ≡ id_mask_of line.now }
+// The device that the fields of a line give, if they keep the rules of a record.
+fn device_of(fields: Fields<'_>) -> Option<Device>
+    ensures {
+        let f = fields.entry in
+        MatchOption result (NotMade f.id.now f.words.now f.row.now f.mask1.now f.mask2.now f.idmask.now) (λ d. Made f.id.now f.words.now f.row.now f.mask1.now f.mask2.now f.idmask.now d)
+    }
 {
-    let t = cut(line);
-    if t.ok {
-        return mask_after(line, t.f);
+    let id = hex_field(fields.id)?;
+    let words = decimal(fields.words, MOST_WORDS)?;
+    let row = decimal(fields.row, 32)?;
+    let mask1 = hex_field(fields.mask1)?;
+    let mask2 = hex_field(fields.mask2)?;
+    let idmask = hex_field(fields.idmask)?;
+    let device = Device {
+        id,
+        words,
+        row,
+        mask1,
+        mask2,
+        idmask,
+    };
+    if judge(device) != 0 {
+        return None;
     }
-    ERASED as u32
+    Some(device)
 }
 
-// Whether a word fits the device that a line gives; the line may break any rule.
-pub(crate) fn line_fits(line: &[u8], w: u16) -> bool
-    ensures { result ≡ fits (device_of line.now) w }
-{
-    if WORD_LIMIT <= w {
-        return false;
-    }
-    let mask = line_mask(line);
-    let id = line_id(line);
-    (w as u32) & mask == id & mask
-}
-
-// Whether the device that a line gives clashes with another; the line may break any rule.
+// Whether the device that a line gives clashes with another; the line may break any rule, and a field that is no number then counts as 0.
 pub(crate) fn line_clashes(line: &[u8], d: Device) -> bool
     ensures { result ≡ clash d (device_of line.now) }
 {
-    let both = (d.idmask as u32) & line_mask(line);
-    let id = line_id(line);
-    (d.id as u32) & both == id & both
+    let both = d.idmask & line_mask(line).unwrap_or(0);
+    let id = line_id(line).unwrap_or(0);
+    d.id & both == id & both
 }
 
-fn cut(line: &[u8]) -> Tabs
-    ensures { Cut line.now result.ok result.a result.b result.c result.d result.e result.f }
+// The ID that a line gives, if its second field is a number.
+fn line_id(line: &[u8]) -> Option<u16>
+    ensures { result ≡ below 65536 (id_of line.now) }
 {
-    let n = line.len();
-    let a = marks::find(line, 0, n, TAB);
-    if n <= a {
-        return NO_TABS;
-    }
-    let b = marks::find(line, a + 1, n, TAB);
-    if n <= b {
-        return NO_TABS;
-    }
-    let c = marks::find(line, b + 1, n, TAB);
-    if n <= c {
-        return NO_TABS;
-    }
-    let d = marks::find(line, c + 1, n, TAB);
-    if n <= d {
-        return NO_TABS;
-    }
-    let e = marks::find(line, d + 1, n, TAB);
-    if n <= e {
-        return NO_TABS;
-    }
-    let f = marks::find(line, e + 1, n, TAB);
-    if one_more(line, f) {} else {
-        return NO_TABS;
-    }
-    Tabs {
-        ok: true,
-        a,
-        b,
-        c,
-        d,
-        e,
-        f,
-    }
+    let (_, rest) = split_once(line, TAB)?;
+    let (id, _) = split_once(rest, TAB).unwrap_or((rest, rest));
+    hex_field(id)
 }
 
-// Whether at most one field follows the one that ends here.
-fn one_more(line: &[u8], end: usize) -> bool
-    ensures { result ≡ leb (length (after line.now end)) 1 }
+// The ID's mask that a line gives: the last of seven fields, and every bit of any other line.
+fn line_mask(line: &[u8]) -> Option<u16>
+    ensures { result ≡ below 65536 (id_mask_of line.now) }
 {
-    let n = line.len();
-    if n <= end {
-        return true;
+    match cut(line) {
+        Some(fields) => hex_field(fields.idmask),
+        None => Some(words::ERASED),
     }
-    n <= marks::find(line, end + 1, n, TAB)
-}
-
-// The ID's mask after the sixth field, which ends here; every bit where nothing follows.
-fn mask_after(line: &[u8], end: usize) -> u32
-    requires { leb (length (after line.now end)) 1 ≡ true }
-    ensures { result ≡ mask_in (after line.now end) }
-{
-    if line.len() <= end {
-        return ERASED as u32;
-    }
-    hex_field(&line[end + 1..])
 }
 
 // Whether a text is a name: 1 to 16 characters, 20h to 7Eh.
 pub fn is_name(f: &[u8]) -> bool
     ensures { result ≡ name_ok f.now }
 {
-    if f.len() < 1 {
-        return false;
-    }
-    if 16 < f.len() {
-        return false;
-    }
-    let mut i = 0;
-    while i < f.len() {
-        let c = f[i];
-        if c < 0x20 {
-            return false;
-        }
-        if 0x7e < c {
-            return false;
-        }
-        i += 1;
-    }
-    true
-}
-
-// The number of four capital hex digits; 65,536 if the field is anything else.
-fn hex_field(f: &[u8]) -> u32
-    ensures { result ≡ hex_field f.now }
-{
-    if f.len() == 4 {
-        numerals::hex::capital_word(f, 0)
-    } else {
-        65536
+    match f.len() {
+        1..=16 => all_printable(f),
+        _ => false,
     }
 }
 
-// The device of the numbers that a line gives, if they keep the rules of a record.
-fn device_of(id: u32, words: u64, row: u64, mask1: u32, mask2: u32, idmask: u32) -> Maybe
-    ensures { Made id words row mask1 mask2 idmask result.ok result.device }
+fn all_printable(f: &[u8]) -> bool
+    ensures { result ≡ list_all printable f.now }
 {
-    if 0x4000 <= id {
-        return no_device();
-    }
-    if (MOST_WORDS as u64) < words {
-        return no_device();
-    }
-    if 32 < row {
-        return no_device();
-    }
-    if 0x4000 <= mask1 {
-        return no_device();
-    }
-    if 0x4000 <= mask2 {
-        return no_device();
-    }
-    if 0x4000 <= idmask {
-        return no_device();
-    }
-    let device = Device {
-        id: id as u16,
-        words: words as u16,
-        row: row as u16,
-        mask1: mask1 as u16,
-        mask2: mask2 as u16,
-        idmask: idmask as u16,
-    };
-    if judge(device) != 0 {
-        return no_device();
-    }
-    Maybe { ok: true, device }
+    f.iter().all(|c| matches!(c, 0x20..=0x7e))
 }
 
-pub(crate) fn zero_device() -> Device
-    ensures { result ≡ record { id = 0; words = 0; row = 0; mask1 = 0; mask2 = 0; idmask = 0 } }
+// The number of four capital hex digits, if the field is just that.
+fn hex_field(f: &[u8]) -> Option<u16>
+    ensures { result ≡ below 65536 (hex_field f.now) }
 {
-    Device {
-        id: 0,
-        words: 0,
-        row: 0,
-        mask1: 0,
-        mask2: 0,
-        idmask: 0,
+    if f.len() != 4 {
+        return None;
     }
+    u16::try_from(numerals::hex::capital_word(f, 0)).ok()
 }
 
-fn no_device() -> Maybe
-    ensures { result.ok ≡ false }
+// The decimal number that a field gives, if it is one up to a bound.
+fn decimal(f: &[u8], bound: u16) -> Option<u16>
+    ensures { result ≡ below (bound + 1) (decimal_of bound f.now) }
 {
-    Maybe {
-        ok: false,
-        device: zero_device(),
-    }
-}
-
-fn no_line() -> Line
-    ensures { result.ok ≡ false }
-{
-    Line {
-        ok: false,
-        name: 0,
-        device: zero_device(),
-    }
+    let n = numerals::decimal::read(f, bound as u32);
+    if n <= bound as u64 { Some(n as u16) } else { None }
 }

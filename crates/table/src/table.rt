@@ -1,21 +1,13 @@
 // The device table: one device a line.
 ghost use Rattle.std.specs.Prelude.{◌≡◌};
 ghost use Rattle.table.specs.Table.{table_lines, clashes, table_number, refused, found_in};
-ghost use Rattle.table.specs.LawsTable.{Sought};
 
 use crate::Found;
-use crate::line::{line_clashes, line_fits, read_line, zero_device};
+use crate::line::{line_clashes, read_line};
+use crate::pieces::split_once;
 use device::Device;
 
-// The line whose device an ID fits, if there is one.
-#[derive(Clone, Copy)]
-pub(crate) struct Spot {
-    pub found: bool,
-    pub at: usize,
-    pub stop: usize,
-}
-
-const LF: u8 = 10;
+const LF: u8 = b'\n';
 
 const MOST_LINES: usize = 64;
 
@@ -23,27 +15,22 @@ const MOST_LINES: usize = 64;
 pub fn judge_table(text: &[u8]) -> u8
     ensures { result ≡ table_number text.now }
 {
-    let mut at = 0;
+    let mut rest = text;
     let mut lines: usize = 0;
-    while at < text.len() {
-        let stop = marks::find(text, at, text.len(), LF);
-        if text.len() <= stop {
+    while let Some((line, after)) = split_once(rest, LF) {
+        let Some(read) = read_line(line) else {
+            return 15;
+        };
+        if clash_after(after, read.device) {
             return 15;
         }
-        let line = read_line(&text[at..stop]);
-        if line.ok {} else {
-            return 15;
-        }
-        if clash_after(&text[stop + 1..], line.device) {
-            return 15;
-        }
-        at = stop + 1;
+        rest = after;
         lines += 1;
         if MOST_LINES < lines {
             return 15;
         }
     }
-    if lines < 1 {
+    if lines < 1 || !rest.is_empty() {
         return 15;
     }
     0
@@ -53,16 +40,12 @@ pub fn judge_table(text: &[u8]) -> u8
 fn clash_after(text: &[u8], d: Device) -> bool
     ensures { result ≡ clashes d (table_lines text.now) }
 {
-    let mut at = 0;
-    while at < text.len() {
-        let stop = marks::find(text, at, text.len(), LF);
-        if text.len() <= stop {
-            return false;
-        }
-        if line_clashes(&text[at..stop], d) {
+    let mut rest = text;
+    while let Some((line, after)) = split_once(rest, LF) {
+        if line_clashes(line, d) {
             return true;
         }
-        at = stop + 1;
+        rest = after;
     }
     false
 }
@@ -74,57 +57,35 @@ pub fn find_device(text: &[u8], id: u16) -> Found
     if judge_table(text) != 0 {
         return refusal(15);
     }
-    let s = seek(text, id);
-    if s.found {
-        let at = s.at;
-        let stop = s.stop;
-        let line = read_line(&text[at..stop]);
-        let device = line.device;
-        return Found {
-            number: 0,
-            device,
-            name_at: at,
-            name_len: line.name,
-        };
+    let mut rest = text;
+    while let Some((line, after)) = split_once(rest, LF) {
+        let read = read_line(line).unwrap();
+        if device::fits(read.device, id) {
+            return Found {
+                number: 0,
+                device: read.device,
+                name_at: text.len() - rest.len(),
+                name_len: read.name,
+            };
+        }
+        rest = after;
     }
     refusal(16)
 }
 
-// The first line of a text whose device an ID fits.
-fn seek(text: &[u8], id: u16) -> Spot
-    ensures { Sought id text.now result.found result.at result.stop }
-{
-    let mut at = 0;
-    while at < text.len() {
-        let stop = marks::find(text, at, text.len(), LF);
-        if text.len() <= stop {
-            return NOT_FOUND;
-        }
-        if line_fits(&text[at..stop], id) {
-            return Spot {
-                found: true,
-                at,
-                stop,
-            };
-        }
-        at = stop + 1;
-    }
-    NOT_FOUND
-}
-
-const NOT_FOUND: Spot = Spot {
-    found: false,
-    at: 0,
-    stop: 0,
-};
-
 fn refusal(number: u8) -> Found
     ensures { result ≡ refused number }
 {
-    let device = zero_device();
     Found {
         number,
-        device,
+        device: Device {
+            id: 0,
+            words: 0,
+            row: 0,
+            mask1: 0,
+            mask2: 0,
+            idmask: 0,
+        },
         name_at: 0,
         name_len: 0,
     }

@@ -1,44 +1,33 @@
 -- Tab after tab, and at most one after the fifth.
-use Rattle.table.specs.LawsLine.{few, none_1, none_2, none_3, none_4, none_5, many, all_tabs}
+use Rattle.std.proofs.Common.{◌≡◌, ℕ, List, [], ◌∷◌, length, false, Bor, sym, ap, arith, ◌∙◌}
+use Rattle.numerals.specs.Text.{tab, split}
+use Rattle.table.specs.LawsPieces.{Parted}
+use Rattle.table.specs.LawsLine.{six_or_seven, Seven, of_either, of_none, of_some, every_bit_whole, more, few, six_fields, seven_fields, many_fields}
 use Rattle.table.proofs.line.cut.Goals as goal
 
-pub returns-then-n-a : goal.returns-then-n-a
-returns-then-n-a c = few _ 0 0 0 0 0 0 (none_1 _ _ c.find-a.ensures.0 c.if-n-a.true)
+pub returns-in_err-name : goal.returns-in_err-name
+returns-in_err-name c = rw c.from_residual.ensures (few _ 1 (ap length c.in_err-name.ensures) (omega arith))
 
-pub returns-then-n-b : goal.returns-then-n-b
-returns-then-n-b c = few _ 0 0 0 0 0 0 (none_2 _ _ c.find-a.ensures.0 c.if-n-a.false _ c.find-b.ensures.0 c.if-n-b.true)
+pub returns-in_err-id : goal.returns-in_err-id
+returns-in_err-id c = rw c.from_residual-in_err-id.ensures (few _ 2 (more c.in_ok-name.ensures (ap length c.in_err-id.ensures)) (omega arith))
 
-pub returns-then-n-c : goal.returns-then-n-c
-returns-then-n-c c = few _ 0 0 0 0 0 0 (none_3 _ _ c.find-a.ensures.0 c.if-n-a.false _
-    c.find-b.ensures.0 c.if-n-b.false _ c.find-c.ensures.0 c.if-n-c.true)
+pub returns-in_err-words : goal.returns-in_err-words
+returns-in_err-words c = rw c.from_residual-in_err-words.ensures (few _ 3 (more c.in_ok-name.ensures (more c.in_ok-id.ensures (ap length c.in_err-words.ensures))) (omega arith))
 
-pub returns-then-n-d : goal.returns-then-n-d
-returns-then-n-d c = few _ 0 0 0 0 0 0 (none_4 _ _ c.find-a.ensures.0
-    c.if-n-a.false _ c.find-b.ensures.0
-    c.if-n-b.false _ c.find-c.ensures.0 c.if-n-c.false _ c.find-d.ensures.0 c.if-n-d.true)
+pub returns-in_err-row : goal.returns-in_err-row
+returns-in_err-row c = rw c.from_residual-in_err-row.ensures (few _ 4 (more c.in_ok-name.ensures (more c.in_ok-id.ensures (more c.in_ok-words.ensures (ap length c.in_err-row.ensures)))) (omega arith))
 
-pub returns-then-n-e : goal.returns-then-n-e
-returns-then-n-e c = few _ 0 0 0 0 0 0 (none_5 _ _ c.find-a.ensures.0
-    c.if-n-a.false _ c.find-b.ensures.0
-    c.if-n-b.false _ c.find-c.ensures.0
-    c.if-n-c.false _ c.find-d.ensures.0 c.if-n-d.false _ c.find-e.ensures.0 c.if-n-e.true)
+pub returns-in_err-mask1 : goal.returns-in_err-mask1
+returns-in_err-mask1 c = rw c.from_residual-in_err-mask1.ensures (few _ 5 (more c.in_ok-name.ensures (more c.in_ok-id.ensures (more c.in_ok-words.ensures (more c.in_ok-row.ensures (ap length c.in_err-mask1.ensures))))) (omega arith))
 
-pub returns-else-one_more : goal.returns-else-one_more
-returns-else-one_more c = few _ 0 0 0 0 0 0 (many _ _ c.find-a.ensures.0
-    c.if-n-a.false _
-    c.find-b.ensures.0
-    c.if-n-b.false _
-    c.find-c.ensures.0 c.if-n-c.false _
-    c.find-d.ensures.0 c.if-n-d.false _
-    c.find-e.ensures.0 c.if-n-e.false _ c.find-f.ensures.0
-    c.find-f.ensures.1 _ c.one_more.ensures c.if-one_more.false)
+pub returns-then-is_some : goal.returns-then-is_some
+returns-then-is_some c = of_some _ _ _ _ c.split_once-7.ensures (sym c.is_some.ensures ∙ c.if-is_some.true)
+    (of_either c.split_once-6.result _ _ _ _ (λ (p : Bor (List ℕ) × Bor (List ℕ)). (x : Bor (List ℕ) × Bor (List ℕ)) → Parted tab p.1.now x.0.now x.1.now → six_or_seven c.args.line.now ≡ false) c.unwrap_or.ensures c.split_once-6.ensures
+    (λ e x q. absurd (every_bit_whole _ _ q))
+    (λ p r x q. many_fields _ _ _ _ _ _ _ _ _ _ _ c.in_ok-name.ensures c.in_ok-id.ensures c.in_ok-words.ensures c.in_ok-row.ensures c.in_ok-mask1.ensures p.0.now p.1.now r _ _ q))
 
 pub returns : goal.returns
-returns c = all_tabs _ _ c.find-a.ensures.0
-    c.if-n-a.false _
-    c.find-b.ensures.0
-    c.if-n-b.false _
-    c.find-c.ensures.0 c.if-n-c.false _
-    c.find-d.ensures.0 c.if-n-d.false _
-    c.find-e.ensures.0 c.if-n-e.false _ c.find-f.ensures.0
-    c.find-f.ensures.1 _ c.one_more.ensures c.if-one_more.true
+returns c = of_either _ _ _ _ _ (λ (p : Bor (List ℕ) × Bor (List ℕ)). split tab p.1.now ≡ p.1.now ∷ [] → Seven c.args.line.now c.in_ok-name.name.now c.in_ok-id.id.now c.in_ok-words.words.now c.in_ok-row.row.now c.in_ok-mask1.mask1.now p.0.now p.1.now) c.unwrap_or.ensures c.split_once-6.ensures
+    (λ e f. six_fields _ _ _ _ _ _ _ _ _ _ _ c.in_ok-name.ensures c.in_ok-id.ensures c.in_ok-words.ensures c.in_ok-row.ensures c.in_ok-mask1.ensures e)
+    (λ p r f. seven_fields _ _ _ _ _ _ _ _ _ _ _ c.in_ok-name.ensures c.in_ok-id.ensures c.in_ok-words.ensures c.in_ok-row.ensures c.in_ok-mask1.ensures _ _ r f)
+    (of_none _ _ _ c.split_once-7.ensures (sym c.is_some.ensures ∙ c.if-is_some.false))

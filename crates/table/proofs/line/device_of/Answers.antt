@@ -1,31 +1,29 @@
--- A law for numbers that break a rule, and one for those that keep them all.
-use mathlib.Core.Path.{sym, ◌∙◌}
-use native.Mathlib.Omega.{arith}
-use Rattle.device.specs.LawsRecord.{ok_of_judged, bad_of_judged, keeps}
-use Rattle.table.specs.LawsLine.{not_made, made_of, no_row}
-use Rattle.words.specs.LawsChoice.{true_not_false}
+-- Each field is a number, and the record of them keeps the rules.
+use Rattle.std.proofs.Common.{sym, ◌∙◌}
+use Rattle.device.specs.LawsRecord.{ok_of_judged, bad_of_judged}
+use Rattle.table.specs.LawsLine.{no_id, no_words, no_row, no_mask1, no_mask2, no_idmask, no_rules, made}
 use Rattle.table.proofs.line.device_of.Goals as goal
 
-pub returns-then-id-ge16384 : goal.returns-then-id-ge16384
-returns-then-id-ge16384 c = not_made _ _ _ _ _ _ _ _ c.no_device.ensures (λ r. omega arith)
+pub returns-in_err-id : goal.returns-in_err-id
+returns-in_err-id c = rw c.from_residual.ensures (no_id _ _ _ _ _ _ (sym c.hex_field.ensures ∙ c.in_err-id.was))
 
-pub returns-then-words : goal.returns-then-words
-returns-then-words c = not_made _ _ _ _ _ _ _ _ c.no_device-then-words.ensures (λ r. omega arith)
+pub returns-in_err-words : goal.returns-in_err-words
+returns-in_err-words c = rw c.from_residual-in_err-words.ensures (no_words _ _ _ _ _ _ (sym c.decimal.ensures ∙ c.in_err-words.was))
 
-pub returns-then-row-gt32 : goal.returns-then-row-gt32
-returns-then-row-gt32 c = not_made _ _ _ _ _ _ _ _ c.no_device-then-row-gt32.ensures (no_row _ c.if-row-gt32.true)
+pub returns-in_err-row : goal.returns-in_err-row
+returns-in_err-row c = rw c.from_residual-in_err-row.ensures (no_row _ _ _ _ _ _ (sym c.decimal-2.ensures ∙ c.in_err-row.was))
 
-pub returns-then-mask1-ge16384 : goal.returns-then-mask1-ge16384
-returns-then-mask1-ge16384 c = not_made _ _ _ _ _ _ _ _ c.no_device-then-mask1-ge16384.ensures (λ r. omega arith)
+pub returns-in_err-mask1 : goal.returns-in_err-mask1
+returns-in_err-mask1 c = rw c.from_residual-in_err-mask1.ensures (no_mask1 _ _ _ _ _ _ (sym c.hex_field-2.ensures ∙ c.in_err-mask1.was))
 
-pub returns-then-mask2-ge16384 : goal.returns-then-mask2-ge16384
-returns-then-mask2-ge16384 c = not_made _ _ _ _ _ _ _ _ c.no_device-then-mask2-ge16384.ensures (λ r. omega arith)
+pub returns-in_err-mask2 : goal.returns-in_err-mask2
+returns-in_err-mask2 c = rw c.from_residual-in_err-mask2.ensures (no_mask2 _ _ _ _ _ _ (sym c.hex_field-3.ensures ∙ c.in_err-mask2.was))
 
-pub returns-then-idmask-ge16384 : goal.returns-then-idmask-ge16384
-returns-then-idmask-ge16384 c = not_made _ _ _ _ _ _ _ _ c.no_device-then-idmask-ge16384.ensures (λ r. omega arith)
+pub returns-in_err-idmask : goal.returns-in_err-idmask
+returns-in_err-idmask c = rw c.from_residual-in_err-idmask.ensures (no_idmask _ _ _ _ _ _ (sym c.hex_field-4.ensures ∙ c.in_err-idmask.was))
 
 pub returns-then-judge-ne0 : goal.returns-then-judge-ne0
-returns-then-judge-ne0 c = not_made _ _ _ _ _ _ _ _ c.no_device-then-judge-ne0.ensures (λ r. true_not_false (keeps _ r) (bad_of_judged _ (λ e. c.if-judge-ne0.true (c.judge.ensures ∙ e))))
+returns-then-judge-ne0 c = no_rules _ _ _ _ _ _ _ _ _ _ _ _ (sym c.hex_field.ensures ∙ c.in_ok-id.was) (sym c.decimal.ensures ∙ c.in_ok-words.was) (sym c.decimal-2.ensures ∙ c.in_ok-row.was) (sym c.hex_field-2.ensures ∙ c.in_ok-mask1.was) (sym c.hex_field-3.ensures ∙ c.in_ok-mask2.was) (sym c.hex_field-4.ensures ∙ c.in_ok-idmask.was) (bad_of_judged _ (λ e. c.if-judge-ne0.true (c.judge.ensures ∙ e)))
 
 pub returns : goal.returns
-returns c = made_of _ _ _ _ _ _ (ok_of_judged _ (sym c.judge.ensures ∙ c.if-judge-ne0.false))
+returns c = made _ _ _ _ _ _ _ _ _ _ _ _ (sym c.hex_field.ensures ∙ c.in_ok-id.was) (sym c.decimal.ensures ∙ c.in_ok-words.was) (sym c.decimal-2.ensures ∙ c.in_ok-row.was) (sym c.hex_field-2.ensures ∙ c.in_ok-mask1.was) (sym c.hex_field-3.ensures ∙ c.in_ok-mask2.was) (sym c.hex_field-4.ensures ∙ c.in_ok-idmask.was) (ok_of_judged _ (sym c.judge.ensures ∙ c.if-judge-ne0.false))

@@ -1,6 +1,7 @@
 -- Both IDs under both masks.
-use Rattle.table.specs.LawsLine.{line_clash_by}
+use Rattle.std.proofs.Common.{arith, sym, ap, ◌∙◌}
+use Rattle.table.specs.LawsLine.{clash_by}
 use Rattle.table.proofs.line.line_clashes.Goals as goal
 
 pub returns : goal.returns
-returns c = line_clash_by _ _ _ c.line_id-id.ensures c.line_mask.ensures _
+returns c = rw (c.unwrap_or.ensures, c.unwrap_or-id.ensures) (clash_by c.args.line.now c.args.d _ _ (omega arith) c.line_id.ensures c.line_mask.ensures)

@@ -1,13 +1,11 @@
 -- The table's test, line by line.
-use Prim.Native.Nat.{◌≤◌, ◌-◌}
-use mathlib.Core.Path.{◌≡◌}
-use lib.ListN.{length, drop}
+use Rattle.std.proofs.Common.{◌≡◌, ◌≤◌, length}
 use Rattle.table.specs.Table.{table_ok}
 use Rattle.table.specs.LawsTable.{left_ok}
 use Rattle.table.proofs.table.judge_table.Given as goal
 
-abbrev pub invariant-loop-at : goal.invariant-loop-at
-invariant-loop-at l = (l.at ≤ length l.text) × (l.lines ≤ 64) × (table_ok l.text ≡ left_ok l.lines (drop l.at l.text))
+abbrev pub invariant-loop-line : goal.invariant-loop-line
+invariant-loop-line l = (l.lines ≤ 64) × (table_ok l.text ≡ left_ok l.lines l.rest)
 
-abbrev pub decreases-loop-at : goal.decreases-loop-at
-decreases-loop-at l = length l.text - l.at
+abbrev pub decreases-loop-line : goal.decreases-loop-line
+decreases-loop-line l = length l.rest
