@@ -10,9 +10,9 @@ use Rattle.std.proofs.lemmas.Nat.{and_le_l, and_comm}
 use Rattle.std.proofs.lemmas.Nat.Bits.{and_pow, bit_at_above}
 use Rattle.std.proofs.lemmas.Option.{cond_some}
 use borrow.Author.Tests.{lt-ltb, le-ltb, ltb-true, eq-eqb, ne_eqb, le-leb, lt-leb}
-use Rattle.words.specs.Choice.{pick}
+use Rattle.words.specs.Choice.{pick, below}
 use Rattle.words.specs.Word.{erased}
-use Rattle.words.specs.LawsChoice.{first_holds, second_holds, first_fails, same_test, true_not_false}
+use Rattle.words.specs.LawsChoice.{pick_true, pick_false, first_holds, second_holds, first_fails, same_test, true_not_false}
 use Rattle.words.specs.LawsTests.{by_lt, fails}
 use Rattle.numerals.specs.Text.{tab, split, in_front}
 use Rattle.numerals.specs.Hex.{within, capital_of, joined, byte_by, word_by}
@@ -26,10 +26,6 @@ use Rattle.table.specs.Table.{field, all_printable, name_ok, hex_field, hex_ok, 
 use Rattle.table.specs.LawsPieces.{Parted}
 
 -- ---- results of the code's parts
-
--- the number if it is below the limit
-abbrev pub below : (limit n : ℕ) → Option ℕ
-below limit n = cond (ltb n limit) (Some n) None
 
 -- a character of a name
 abbrev pub printable : ℕ → Bool
@@ -77,20 +73,20 @@ pub record LineRead (line : List ℕ) (name : ℕ) (d : Device) : Type 0 where
 -- ---- numbers below a limit
 
 module _ (limit n : ℕ) where
-  pub below_none : below limit n ≡ None → limit ≤ n
-  below_none e =
+  below_low : n < limit → below limit n ≡ Some n
+  below_low h = pick_true (ltb n limit) (Some n) None (lt-ltb n limit h)
+
+  below_high : limit ≤ n → below limit n ≡ None
+  below_high h = pick_false (ltb n limit) (Some n) None (le-ltb n limit h)
+
+  below_none : below limit n ≡ None → limit ≤ n
+  below_none e = by_lt n limit (λ h. let z : Some n ≡ None = sym (below_low h) ∙ e in cc) (λ h. h)
+
+  below_some : (k : ℕ) → below limit n ≡ Some k → (n < limit) × (n ≡ k)
+  below_some k e =
       by_lt n limit
-      (λ h. let s : below limit n ≡ Some n = (rw (lt-ltb n limit h)) in let z : Some n ≡ None = sym s ∙ e in cc)
-      (λ h. h)
-
-  pub below_some : (k : ℕ) → below limit n ≡ Some k → (n < limit) × (n ≡ k)
-  below_some k e = let c = cond_some (ltb n limit) n k e in (ltb-true n limit c.0, c.1)
-
-  pub below_low : n < limit → below limit n ≡ Some n
-  below_low h = rw (lt-ltb n limit h)
-
-  pub below_high : limit ≤ n → below limit n ≡ None
-  below_high h = rw (le-ltb n limit h)
+      (λ h. let z : Some n ≡ Some k = sym (below_low h) ∙ e in (h, cc))
+      (λ h. let z : None ≡ Some k = sym (below_high h) ∙ e in cc)
 
 -- a number that is cut to a shorter type
 pub small_or_none : (E : Type 0) (n : ℕ) (r : Result ℕ E) → OkIff r (n < 65536) n → result_ok r ≡ below 65536 n

@@ -1,10 +1,11 @@
 // One line of a device table: six or seven fields parted by tabs.
 ghost use Rattle.std.specs.Prelude.{◌≡◌, false, ◌+◌, MatchOption};
 ghost use Rattle.std.specs.List.{list_all};
+ghost use Rattle.words.specs.Choice.{below};
 ghost use Rattle.device.specs.Record.{most_words};
 ghost use Rattle.numerals.specs.Decimal.{decimal_of};
 ghost use Rattle.table.specs.Table.{name_ok, hex_field, id_of, id_mask_of, device_of, clash, line_up_to};
-ghost use Rattle.table.specs.LawsLine.{below, six_or_seven, printable, Seven, NotMade, Made, LineRead};
+ghost use Rattle.table.specs.LawsLine.{six_or_seven, printable, Seven, NotMade, Made, LineRead};
 
 use crate::pieces::split_once;
 use device::{Device, MOST_WORDS, judge};

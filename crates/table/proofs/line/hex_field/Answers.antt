@@ -1,7 +1,8 @@
 -- Four digits, or none.
 use Rattle.std.proofs.Common.{sym, ap, ◌∙◌}
 use Rattle.std.specs.Result.{result_ok}
-use Rattle.table.specs.LawsLine.{below, hex_four, hex_other, small_or_none}
+use Rattle.words.specs.Choice.{below}
+use Rattle.table.specs.LawsLine.{hex_four, hex_other, small_or_none}
 use Rattle.table.proofs.line.hex_field.Goals as goal
 
 pub returns-then-f-ne4 : goal.returns-then-f-ne4

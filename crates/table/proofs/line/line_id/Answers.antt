@@ -1,7 +1,8 @@
 -- The second field, if there is one.
 use Rattle.std.proofs.Common.{◌≡◌, ℕ, List, Bor, sym, ap, ◌∙◌}
 use Rattle.table.specs.Table.{id_of, hex_field}
-use Rattle.table.specs.LawsLine.{below, of_either, id_none, id_last, id_field}
+use Rattle.words.specs.Choice.{below}
+use Rattle.table.specs.LawsLine.{of_either, id_none, id_last, id_field}
 use Rattle.table.proofs.line.line_id.Goals as goal
 
 pub returns-in_err-rest : goal.returns-in_err-rest
