@@ -1,27 +1,29 @@
 -- Laws of a table's line: what its five or six tabs cut it into, and its rules as rules of the numbers read.
-use Rattle.std.specs.Prelude.{ℕ, suc, ◌+◌, ◌*◌, ◌-◌, ◌≤◌, ◌<◌, ◌≡◌, Bool, true, false, cond, ◌&&◌, ◌||◌, Option, Some, None, Result, Ok, Err, List, [], ◌∷◌, ltb, leb, eqb, length, get_or, refl}
+use Rattle.std.specs.Prelude.{ℕ, suc, ◌+◌, ◌*◌, ◌≤◌, ◌<◌, ◌≡◌, Bool, true, false, ◌&&◌, ◌||◌, Option, Some, None, Result, Ok, Err, List, [], ◌∷◌, ltb, leb, eqb, length, refl}
 use Rattle.std.specs.List.{list_all}
 use Rattle.std.specs.Int.Bits.{bit_and, and_zero_r}
-use Rattle.std.specs.Result.{OkIff, result_ok}
+use Rattle.std.specs.Result.{result_ok}
 use Rattle.std.specs.Option.{MatchOption, is_some}
 use Rattle.std.proofs.Common.{sym, ap, arith, ◌∙◌, unwrap_or}
 use Rattle.std.proofs.Math.Nat.{mul-le-mul_left}
 use Rattle.std.proofs.lemmas.Nat.{and_le_l, and_comm}
 use Rattle.std.proofs.lemmas.Nat.Bits.{and_pow, bit_at_above}
-use Rattle.std.proofs.lemmas.Option.{cond_some}
-use borrow.Author.Tests.{lt-ltb, le-ltb, ltb-true, eq-eqb, ne_eqb, le-leb, lt-leb}
+use borrow.Author.Tests.{lt-ltb, le-ltb, eq-eqb, ne_eqb, le-leb, lt-leb}
 use Rattle.words.specs.Choice.{pick, below}
 use Rattle.words.specs.Word.{erased}
-use Rattle.words.specs.LawsChoice.{pick_true, pick_false, first_holds, second_holds, first_fails, same_test, true_not_false}
+use Rattle.words.specs.LawsChoice.{pick_true, pick_false, true_not_false}
 use Rattle.words.specs.LawsTests.{by_lt, fails}
 use Rattle.numerals.specs.Text.{tab, split, in_front}
 use Rattle.numerals.specs.Hex.{within, capital_of, joined, byte_by, word_by}
 use Rattle.numerals.specs.Decimal.{is_decimal, value_of, decimal_of}
 use Rattle.numerals.specs.LawsText.{some_piece}
 use Rattle.numerals.specs.LawsDecimal.{decimal_read, decimal_value}
+use Rattle.refusal.specs.Refusal.{number_in}
+use Rattle.refusal.specs.declared.Refusal.{Refusal}
+use Rattle.refusal.specs.LawsRefusal.{number_of_positive}
 use Rattle.device.specs.declared.Device.{Device}
-use Rattle.device.specs.Record.{most_words, device_ok, fits}
-use Rattle.device.specs.LawsRecord.{Rules, Row, rules_lem, row as row_rule}
+use Rattle.device.specs.Record.{most_words, device_ok, record_number}
+use Rattle.device.specs.LawsRecord.{Rules, Row, ok_of_judged, bad_of_judged, rules_lem, row as row_rule}
 use Rattle.table.specs.Table.{field, all_printable, name_ok, hex_field, hex_ok, id_of, id_mask_of, device_of, count_ok, line_up_to, clash}
 use Rattle.table.specs.LawsPieces.{Parted}
 
@@ -88,10 +90,19 @@ module _ (limit n : ℕ) where
       (λ h. let z : Some n ≡ Some k = sym (below_low h) ∙ e in (h, cc))
       (λ h. let z : None ≡ Some k = sym (below_high h) ∙ e in cc)
 
--- a number that is cut to a shorter type
-pub small_or_none : (E : Type 0) (n : ℕ) (r : Result ℕ E) → OkIff r (n < 65536) n → result_ok r ≡ below 65536 n
-small_or_none E n (Ok x) h = rw (h.1) (sym (below_low 65536 n h.0))
-small_or_none E n (Err e) h = sym (below_high 65536 n (by_lt n 65536 (λ k. absurd (h k)) (λ k. k)))
+  pub below_fits : (k : ℕ) → below limit n ≡ Some k → k < limit
+  below_fits k e = let h = below_some k e in omega arith
+
+-- ---- the answer on a record
+
+module _ (d : Device) where
+  pub kept_of_ok : (u : Unit {0}) (r : Result (Unit {0}) Refusal) → number_in r ≡ record_number d → result_ok r ≡ Some u → device_ok d ≡ true
+  kept_of_ok u (Ok v) e s = ok_of_judged d (sym e)
+  kept_of_ok u (Err f) e s = cc
+
+  pub broken_of_none : (r : Result (Unit {0}) Refusal) → number_in r ≡ record_number d → result_ok r ≡ None → device_ok d ≡ false
+  broken_of_none (Ok v) e s = cc
+  broken_of_none (Err f) e s = bad_of_judged d (λ z. let p = number_of_positive f in omega arith)
 
 -- ---- a name
 

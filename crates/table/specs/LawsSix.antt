@@ -19,8 +19,7 @@ use Rattle.device.specs.declared.Device.{Device}
 use Rattle.device.specs.Record.{most_words, row_ok, words_up_to, device_up_to, fits}
 use Rattle.device.specs.LawsRecord.{rules_lem}
 use Rattle.device.specs.LawsId.{fits_whole}
-use Rattle.table.specs.declared.Found.{Found}
-use Rattle.table.specs.Table.{field, name_ok, hex_field, hex_ok, id_of, id_mask_of, device_of, count_ok, line_up_to, table_lines, most_lines, ends_in_lf, lines_up_to, clash, clashes, ids_once, table_up_to, table_ok, has_id, line_with, start_of, refused, given, found_up_to, found_in}
+use Rattle.table.specs.Table.{Found, field, name_ok, hex_field, hex_ok, id_of, id_mask_of, device_of, count_ok, line_up_to, table_lines, most_lines, ends_in_lf, lines_up_to, clash, clashes, ids_once, table_up_to, table_ok, has_id, line_with, start_of, refused, given, found_up_to, found_in}
 use Rattle.table.specs.LawsTable.{line_device}
 
 -- ---- as it was

@@ -1,27 +1,30 @@
 -- Laws of the device table: its test line by line, and the search for an ID.
 use Prim.Native.Nat.{ℕ, suc, ◌+◌, ◌-◌, ◌≤◌, ◌<◌}
-use Rattle.std.proofs.Common.{zero-add, ◌∙◌, drop_of_length-le, take_all}
+use Rattle.std.proofs.Common.{zero-add, ◌∙◌, drop_of_length-le}
 use Rattle.std.proofs.Math.Nat.{add-zero}
 use native.Mathlib.Omega.{arith}
-use Rattle.std.specs.Prelude.{◌≡◌, Bool, ◌&&◌, ◌||◌, drop}
+use Rattle.std.specs.Prelude.{◌≡◌, Result, Ok, Err, Bool, ◌&&◌, ◌||◌, drop}
 use Rattle.std.proofs.Math.Path.{refl, sym, ap}
 use Rattle.std.proofs.Math.Bool.{true, false}
 use mathlib.Core.List.{List, [], ◌∷◌}
 use Rattle.std.proofs.Math.Dec.{leb, eqb}
 use Rattle.std.proofs.Math.ListN.{length, take, length-drop}
-use Rattle.std.proofs.Math.Seq.{length-take-le}
 use borrow.Author.Tests.{ne_eqb, le-leb, lt-leb}
 use Rattle.marks.specs.Marks.{index_of, slice}
 use Rattle.words.specs.Choice.{pick, unless}
 use Rattle.words.specs.LawsChoice.{pick_true, pick_false, first_holds, second_holds, first_fails, second_fails, true_not_false}
+use Rattle.refusal.specs.Refusal.{number_of}
+use Rattle.refusal.specs.declared.Refusal.{Refusal}
+use Rattle.refusal.specs.LawsRefusal.{number_of_positive, number_of_unique}
 use Rattle.device.specs.declared.Device.{Device}
+use Rattle.table.specs.declared.Found.{Found as Place}
 use Rattle.numerals.specs.Text.{lf, split}
 use Rattle.numerals.specs.Decimal.{is_decimal}
 use Rattle.device.specs.Record.{most_words, device_ok, fits}
 use Rattle.numerals.specs.LawsText.{part, part_found, part_last, some_piece}
 use Rattle.table.specs.LawsPieces.{Parted, parted_length}
 use Rattle.table.specs.LawsLine.{LineRead}
-use Rattle.table.specs.Table.{but_last, last_of, field, name_ok, hex_ok, device_of, count_ok, line_up_to, table_lines, most_lines, ends_in_lf, lines_up_to, clash, clashes, ids_once, table_up_to, table_ok, table_number, has_id, line_with, start_of, refused, given, found_up_to, found_in}
+use Rattle.table.specs.Table.{but_last, last_of, field, name_ok, hex_ok, device_of, count_ok, line_up_to, table_lines, most_lines, ends_in_lf, lines_up_to, clash, clashes, ids_once, table_up_to, table_ok, table_number, has_id, line_with, start_of, refused, given, found_up_to, found_in, found_told}
 
 -- ---- all pieces but the last, and the last
 
@@ -284,6 +287,13 @@ module _ (text : List ℕ) (id : ℕ) where
   unfolding found_in found_up_to table_ok
   found_bad f = pick_false (table_ok text) _ _ f
 
+  -- what judges the table refuses it for the call that finds a record
+  pub found_refused : (n : ℕ) → 0 < n → n ≡ table_number text → refused n ≡ found_in text id
+  found_refused n h e =
+      let bad : table_ok text ≡ false = bad_of_number text (λ z. omega arith) in
+      let same : 15 ≡ n = table_bad text bad ∙ sym e in
+      ap refused (sym same) ∙ sym (found_bad bad)
+
 -- the lines of a rest still hold what is looked for, and every one of them is sound
 pub record Ahead (text : List ℕ) (id : ℕ) (rest : List ℕ) : Type 0 where
   pub sound : lines_up_to most_words (table_lines rest) ≡ true
@@ -356,3 +366,12 @@ found_sound text id t has =
 -- a table without a line
 pub table_empty : 15 ≡ table_number []
 table_empty = table_bad [] (unfold table_ok table_up_to ends_in_lf last_of table_lines but_last split in refl)
+
+-- ---- the answers, by what they tell
+
+pub found_told_unique : (a b : Result Place Refusal) → found_told a ≡ found_told b → a ≡ b
+unfolding refused
+found_told_unique (Ok f) (Ok g) e = ap (λ x. Ok (record { device = x.device; name_at = x.name_at; name_len = x.name_len })) e
+found_told_unique (Ok f) (Err d) e = let z : 0 ≡ number_of d = ap (λ x. x.number) e in absurd (omega (arith, number_of_positive d))
+found_told_unique (Err c) (Ok g) e = let z : number_of c ≡ 0 = ap (λ x. x.number) e in absurd (omega (arith, number_of_positive c))
+found_told_unique (Err c) (Err d) e = ap Err (number_of_unique c d (ap (λ x. x.number) e))

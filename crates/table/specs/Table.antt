@@ -1,5 +1,5 @@
 -- The device table ('The device table'; refusals 15 and 16; #107 for the ID's mask). Text is a list of bytes.
-use Rattle.std.specs.Prelude.{ℕ, ◌+◌, Bool, true, false, ◌&&◌, ◌||◌, not, List, [], ◌∷◌, ltb, leb, eqb, length, get_or, take, drop}
+use Rattle.std.specs.Prelude.{ℕ, ◌+◌, Bool, true, false, Result, Ok, Err, ◌&&◌, ◌||◌, not, List, [], ◌∷◌, ltb, leb, eqb, length, get_or, take, drop}
 use Rattle.std.specs.Int.Bits.{bit_and}
 use Rattle.words.specs.Choice.{pick, unless}
 use Rattle.words.specs.Word.{erased}
@@ -7,7 +7,9 @@ use Rattle.numerals.specs.Text.{tab, lf, split}
 use Rattle.numerals.specs.Hex.{within, capital_of, word_by}
 use Rattle.numerals.specs.Decimal.{is_decimal, value_of}
 use Rattle.device.specs.declared.Device.{Device}
-use Rattle.table.specs.declared.Found.{Found}
+use Rattle.refusal.specs.Refusal.{number_of}
+use Rattle.refusal.specs.declared.Refusal.{Refusal}
+use Rattle.table.specs.declared.Found.{Found as Place}
 use Rattle.device.specs.Record.{most_words, device_up_to, fits}
 
 -- ---- lines
@@ -148,6 +150,13 @@ unfoldable pub start_of : ℕ → List (List ℕ) → ℕ
 start_of id [] = 0
 start_of id (l ∷ ls) = pick (fits (device_of l) id) 0 (length l + 1 + start_of id ls)
 
+-- what is answered of an ID: a number, its record, and the place of its name in the text
+pub record Found : Type 0 where
+  pub number : ℕ
+  pub device : Device
+  pub name_at : ℕ
+  pub name_len : ℕ
+
 -- a refusal names nothing else
 unfoldable pub refused : ℕ → Found
 refused n = record { number = n; device = record { id = 0; words = 0; row = 0; mask1 = 0; mask2 = 0; idmask = 0 }; name_at = 0; name_len = 0 }
@@ -170,3 +179,8 @@ found_in text id = found_up_to most_words text id
 -- the name of what was found, as it stands in the table's text
 unfoldable pub name_at : (text : List ℕ) → Found → List ℕ
 name_at text f = take f.name_len (drop f.name_at text)
+
+-- the answer of the call that finds an ID's record
+abbrev pub found_told : Result Place Refusal → Found
+found_told (Ok f) = record { number = 0; device = f.device; name_at = f.name_at; name_len = f.name_len }
+found_told (Err e) = refused (number_of e)

@@ -1,14 +1,14 @@
 // One line of a device table: six or seven fields parted by tabs.
-ghost use Rattle.std.specs.Prelude.{◌≡◌, false, ◌+◌, MatchOption};
+ghost use Rattle.std.specs.Prelude.{◌≡◌, false, MatchOption};
 ghost use Rattle.std.specs.List.{list_all};
 ghost use Rattle.words.specs.Choice.{below};
 ghost use Rattle.device.specs.Record.{most_words};
-ghost use Rattle.numerals.specs.Decimal.{decimal_of};
 ghost use Rattle.table.specs.Table.{name_ok, hex_field, id_of, id_mask_of, device_of, clash, line_up_to};
 ghost use Rattle.table.specs.LawsLine.{six_or_seven, printable, Seven, NotMade, Made, LineRead};
 
 use crate::pieces::split_once;
 use device::{Device, MOST_WORDS, judge};
+use numerals::{decimal, hex};
 
 // The fields of a line, each as it stands there; a line of six has the text of every bit for the ID's mask.
 #[derive(Clone, Copy)]
@@ -74,28 +74,24 @@ fn cut(line: &[u8]) -> Option<Fields<'_>>
 
 // The device that the fields of a line give, if they keep the rules of a record.
 fn device_of(fields: Fields<'_>) -> Option<Device>
-    ensures {
-        let f = fields.entry in
-        MatchOption result (NotMade f.id.now f.words.now f.row.now f.mask1.now f.mask2.now f.idmask.now) (λ d. Made f.id.now f.words.now f.row.now f.mask1.now f.mask2.now f.idmask.now d)
-    }
+    ensures { let f = fields.entry in
+        MatchOption result (NotMade f.id.now f.words.now f.row.now f.mask1.now f.mask2.now f.idmask.now) (λ d. Made f.id.now f.words.now f.row.now f.mask1.now f.mask2.now f.idmask.now d) }
 {
     let id = hex_field(fields.id)?;
-    let words = decimal(fields.words, MOST_WORDS)?;
-    let row = decimal(fields.row, 32)?;
+    let words = decimal::read(fields.words, MOST_WORDS as u32)?;
+    let row = decimal::read(fields.row, 32)?;
     let mask1 = hex_field(fields.mask1)?;
     let mask2 = hex_field(fields.mask2)?;
     let idmask = hex_field(fields.idmask)?;
     let device = Device {
         id,
-        words,
-        row,
+        words: words as u16,
+        row: row as u16,
         mask1,
         mask2,
         idmask,
     };
-    if judge(device) != 0 {
-        return None;
-    }
+    judge(device).ok()?;
     Some(device)
 }
 
@@ -147,16 +143,9 @@ fn all_printable(f: &[u8]) -> bool
 fn hex_field(f: &[u8]) -> Option<u16>
     ensures { result ≡ below 65536 (hex_field f.now) }
 {
-    if f.len() != 4 {
-        return None;
+    if f.len() == 4 {
+        hex::capital_word(f, 0)
+    } else {
+        None
     }
-    u16::try_from(numerals::hex::capital_word(f, 0)).ok()
-}
-
-// The decimal number that a field gives, if it is one up to a bound.
-fn decimal(f: &[u8], bound: u16) -> Option<u16>
-    ensures { result ≡ below (bound + 1) (decimal_of bound f.now) }
-{
-    let n = numerals::decimal::read(f, bound as u32);
-    if n <= bound as u64 { Some(n as u16) } else { None }
 }

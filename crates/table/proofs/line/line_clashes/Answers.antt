@@ -1,5 +1,5 @@
 -- Both IDs under both masks.
-use Rattle.std.proofs.Common.{arith, sym, ap, ◌∙◌}
+use Rattle.std.proofs.Common.{arith}
 use Rattle.table.specs.LawsLine.{clash_by}
 use Rattle.table.proofs.line.line_clashes.Goals as goal
 

@@ -23,13 +23,13 @@ pub loop-line-preserved : goal.loop-line-preserved
 loop-line-preserved c = (
   omega arith,
   c.loop-line.invariant.1
-  ∙ turn_on _ _ _ c.in-Some.ensures _ _ _ c.in-Some-read_line.ensures (sym c.clash_after.ensures ∙ c.if-clash_after.false),
+      ∙ turn_on _ _ _ c.in-Some.ensures _ _ _ c.in-Some-read_line.ensures (sym c.clash_after.ensures ∙ c.if-clash_after.false),
 )
 
 pub returns-then-lines-lt1 : goal.returns-then-lines-lt1
 returns-then-lines-lt1 c = table_bad _ (c.loop-line.invariant.1 ∙ elim c.then-lines-lt1.branch [
-  then-lines-lt1-via-then-lines-lt1 w ↦ end_few _ c.in_default.ensures _ w.if-lines-lt1.true |
-  then-lines-lt1-via-else-lines-lt1+then-not-is_empty w ↦ end_rest _ c.in_default.ensures _ (omega (arith, false-eqb _ 0 w.if-not-is_empty.ensures))
+  | then-lines-lt1-via-then-lines-lt1 w ↦ end_few _ c.in_default.ensures _ w.if-lines-lt1.true
+  | then-lines-lt1-via-else-lines-lt1+then-not-is_empty w ↦ end_rest _ c.in_default.ensures _ (omega (arith, false-eqb _ 0 w.if-not-is_empty.ensures))
 ])
 
 pub returns : goal.returns
