@@ -1,11 +1,12 @@
 -- The checksum of a reading ('Checksum and verify'; refusals 13, 21).
-use Rattle.std.specs.Prelude.{ℕ, zero, suc, ◌+◌, ◌*◌, ◌%◌, List, get_or}
+use Rattle.std.specs.Prelude.{ℕ, zero, suc, ◌+◌, ◌*◌, ◌%◌, List, get_or, Result}
 use Rattle.std.specs.Int.Bits.{bit_and}
+use Rattle.refusal.specs.declared.Refusal.{Refusal}
+use Rattle.refusal.specs.Refusal.{number_in, value_in}
 use Rattle.words.specs.Choice.{pick, unless}
 use Rattle.device.specs.declared.Device.{Device}
 use Rattle.device.specs.Record.{device_ok}
 use Rattle.device.specs.Memory.{reading_ok, protected}
-use Rattle.judge.specs.declared.Sum.{Sum}
 
 -- the first n words added up
 unfoldable pub sum_to : ℕ → List ℕ → ℕ
@@ -28,6 +29,15 @@ nibbles words l =
 unfoldable pub checksum_of : Device → List ℕ → ℕ
 checksum_of d l =
     pick (protected d.words l) (config_sum d l + nibbles d.words l) (sum_to d.words l + config_sum d l) % 65536
+
+-- a checksum as it is told: with 0, or beside the number of a refusal
+pub record Sum : Type 0 where
+  pub number : ℕ
+  pub sum : ℕ
+
+-- how the call's answer is told
+abbrev pub sum_told : Result ℕ Refusal → Sum
+sum_told answer = record { number = number_in answer; sum = value_in 0 answer }
 
 -- what the call answers
 unfoldable pub summed : Device → List ℕ → Sum

@@ -1,16 +1,21 @@
 -- Laws of the checksum: its answers case by case, and what has no say in it.
-use Rattle.std.specs.Prelude.{ℕ, zero, suc, ◌+◌, ◌*◌, ◌%◌, ◌≤◌, ◌<◌, ◌≡◌, refl, true, false, List}
-use Rattle.std.proofs.Common.{add-one, arith, sym, ◌∙◌}
+use Rattle.std.specs.Prelude.{ℕ, zero, suc, ◌+◌, ◌*◌, ◌%◌, ◌≤◌, ◌<◌, ◌≡◌, refl, true, false, List, Result, Ok, Err}
+use Rattle.std.proofs.Common.{add-one, add_comm, arith, sym, ◌∙◌}
 use Rattle.std.proofs.Math.Path.{ap}
 use Rattle.std.proofs.Math.ListN.{get_or}
 use Rattle.std.specs.Int.Bits.{bit_and}
 use Rattle.words.specs.Choice.{pick}
 use Rattle.words.specs.LawsChoice.{pick_true, pick_false}
 use Rattle.device.specs.declared.Device.{Device}
-use Rattle.device.specs.Record.{device_ok}
+use Rattle.device.specs.Record.{device_ok, record_number}
+use Rattle.device.specs.LawsRecord.{ok_of_judged, bad_of_judged}
 use Rattle.device.specs.Memory.{reading_ok, protected}
 use Rattle.device.specs.LawsMemory.{protected_same}
-use Rattle.judge.specs.Checksum.{sum_to, config_sum, nibbles, checksum_of, summed}
+use Rattle.refusal.specs.declared.Refusal.{Refusal}
+use Rattle.refusal.specs.declared.Refusal.TheVariants.{Reading}
+use Rattle.refusal.specs.Refusal.{number_of}
+use Rattle.refusal.specs.LawsRefusal.{number_of_positive, answer_unique}
+use Rattle.judge.specs.Checksum.{sum_to, config_sum, nibbles, checksum_of, sum_told, summed}
 
 -- ---- the program words
 
@@ -61,8 +66,8 @@ module _ (d : Device) (l : List ℕ) where
   pub sum_hidden_of : (x y : ℕ) → x ≡ config_sum d l → y ≡ nibbles d.words l → protected d.words l ≡ true → (x + y) % 65536 ≡ checksum_of d l
   sum_hidden_of x y p q e = rw (p, q) (sym (sum_hidden e))
 
-  pub sum_shown_of : (x y : ℕ) → x ≡ sum_to d.words l → y ≡ config_sum d l → protected d.words l ≡ false → (x + y) % 65536 ≡ checksum_of d l
-  sum_shown_of x y p q e = rw (p, q) (sym (sum_shown e))
+  pub sum_shown_of : (x y : ℕ) → x ≡ config_sum d l → y ≡ sum_to d.words l → protected d.words l ≡ false → (x + y) % 65536 ≡ checksum_of d l
+  sum_shown_of x y p q e = rw (p, q, add_comm (config_sum d l) (sum_to d.words l)) (sym (sum_shown e))
 
 -- ---- the answer
 
@@ -78,6 +83,36 @@ module _ (d : Device) (l : List ℕ) where
   pub summed_0 : device_ok d ≡ true → reading_ok d.words l ≡ true → summed d l ≡ record { number = 0; sum = checksum_of d l }
   unfolding summed pick
   summed_0 e f = rw (e, f)
+
+-- a record that is refused breaks the rules
+pub broken : (d : Device) (e : Refusal) → number_of e ≡ record_number d → (device_ok d ≡ false) × (number_of e ≡ 13)
+unfolding record_number
+broken d e p = (bad, p ∙ pick_false (device_ok d) 0 13 bad)
+  where
+    bad : device_ok d ≡ false
+    bad = bad_of_judged d (λ z. let n : 0 < number_of e = number_of_positive e in omega (arith, p ∙ z))
+
+-- the answer as the code gives it
+module _ (d : Device) (l : List ℕ) where
+  pub told_refused : (e : Refusal) → number_of e ≡ record_number d → sum_told (Err e) ≡ summed d l
+  told_refused e p = let b = broken d e p in (λ i. record { number = b.1 i; sum = 0 }) ∙ sym (summed_13 d l b.0)
+
+  pub told_21 : 0 ≡ record_number d → reading_ok d.words l ≡ false → sum_told (Err Reading) ≡ summed d l
+  told_21 z f = sym (summed_21 d l (ok_of_judged d (sym z)) f)
+
+  pub told_0 : 0 ≡ record_number d → reading_ok d.words l ≡ true → (n : ℕ) → n ≡ checksum_of d l → sum_told (Ok n) ≡ summed d l
+  told_0 z f n e = (λ i. record { number = 0; sum = e i }) ∙ sym (summed_0 d l (ok_of_judged d (sym z)) f)
+
+  -- what a caller has of it whose record and reading keep the rules
+  pub sum_there : device_ok d ≡ true → reading_ok d.words l ≡ true → (r : Result ℕ Refusal) → sum_told r ≡ summed d l → r ≡ Ok (checksum_of d l)
+  sum_there ok good r e = answer_unique 0 r (Ok (checksum_of d l)) (ap (λ x. x.number) same) (ap (λ x. x.sum) same)
+    where
+      same : sum_told r ≡ record { number = 0; sum = checksum_of d l }
+      same = e ∙ summed_0 d l ok good
+
+-- two answers that are told alike are equal
+pub sum_unique : (a b : Result ℕ Refusal) → sum_told a ≡ sum_told b → a ≡ b
+sum_unique a b e = answer_unique 0 a b (ap (λ x. x.number) e) (ap (λ x. x.sum) e)
 
 -- ---- what a protected board hides has no say
 

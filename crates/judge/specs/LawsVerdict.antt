@@ -25,7 +25,6 @@ use Rattle.judge.specs.LawsVerify.{judged_program, judged_id, judged_between, ju
 -- ---- the number
 
 bare_number : (n : ℕ) → (bare n).number ≡ n
-unfolding bare
 bare_number n = refl
 
 module _ (d : Device) (wanted reading : List ℕ) where

@@ -1,5 +1,5 @@
 -- Laws of verify: which entries are judged and which differ, and the answers case by case.
-use Rattle.std.specs.Prelude.{Some, None, ℕ, ◌+◌, ◌≤◌, ◌<◌, ◌≡◌, Bool, ◌&&◌, List, eqb, get_or}
+use Rattle.std.specs.Prelude.{Ok, Err, Some, None, ℕ, ◌+◌, ◌≤◌, ◌<◌, ◌≡◌, Bool, ◌&&◌, List, eqb, get_or}
 use Rattle.std.proofs.Common.{arith, sym, ap, ◌∙◌}
 use Rattle.std.proofs.Math.Decide.{dec_lt}
 use Rattle.std.proofs.Math.Path.{refl}
@@ -14,19 +14,23 @@ use Rattle.words.specs.LawsMask.{under_same, under_equal, equal_under}
 use Rattle.words.specs.Address.{config_base, address_of, place_of}
 use Rattle.words.specs.LawsAddress.{place_of_lem, address_program, address_config}
 use Rattle.words.specs.declared.WordAddress.{WordAddress}
-use Rattle.words.specs.declared.Place.{Place}
-use Rattle.words.specs.declared.Place.TheVariants.{At, Nowhere}
 use Rattle.words.specs.First.{first_to}
 use Rattle.device.specs.declared.Device.{Device}
-use Rattle.device.specs.Record.{most_words, device_ok}
+use Rattle.device.specs.Record.{most_words, device_ok, record_number}
+use Rattle.device.specs.LawsRecord.{ok_of_judged}
 use Rattle.device.specs.Memory.{reading_tail, ids, cp_word, programmable, mask_at, reading_ok, protected}
 use Rattle.device.specs.LawsMask.{under_plain}
 use Rattle.device.specs.LawsMemory.{programmable_low, programmable_never, programmable_config}
 use Rattle.judge.specs.declared.Verdict.{Verdict}
+use Rattle.judge.specs.declared.Verdict.TheVariants.{Same, Differs, Protected}
+use Rattle.refusal.specs.declared.Refusal.{Refusal}
+use Rattle.refusal.specs.declared.Refusal.TheVariants.{Reading}
+use Rattle.refusal.specs.Refusal.{number_of}
+use Rattle.judge.specs.LawsChecksum.{broken}
 use Rattle.judge.specs.Count.{count_to}
 use Rattle.judge.specs.declared.verdicts.Differences.{Differences}
 use Rattle.judge.specs.LawsCount.{Seen, first_counted}
-use Rattle.judge.specs.Verify.{judged, word_differs, entry_differs, bare, verdict_of, verified}
+use Rattle.judge.specs.Verify.{judged, word_differs, entry_differs, bare, as_told, verdict_told, verdict_of, verified}
 
 -- ---- which entries are judged
 
@@ -128,10 +132,10 @@ module _ (d : Device) (wanted reading : List ℕ) where
 
 -- the same from what the code has found
 module _ (d : Device) (wanted reading : List ℕ) where
-  pub found_0 : Seen (d.words + reading_tail) (entry_differs d wanted reading) None → protected d.words reading ≡ false → bare 0 ≡ verdict_of d wanted reading
+  pub found_0 : Seen (d.words + reading_tail) (entry_differs d wanted reading) None → protected d.words reading ≡ false → as_told Same ≡ verdict_of d wanted reading
   found_0 z f = sym (verdict_0 d wanted reading z f)
 
-  pub found_41 : Seen (d.words + reading_tail) (entry_differs d wanted reading) None → protected d.words reading ≡ true → bare 41 ≡ verdict_of d wanted reading
+  pub found_41 : Seen (d.words + reading_tail) (entry_differs d wanted reading) None → protected d.words reading ≡ true → as_told Protected ≡ verdict_of d wanted reading
   found_41 z f = sym (verdict_41 d wanted reading z f)
 
   module _ (e : Differences) (s : Seen (d.words + reading_tail) (entry_differs d wanted reading) (Some e)) where
@@ -142,7 +146,7 @@ module _ (d : Device) (wanted reading : List ℕ) where
     found_within = rw s.2 (first_counted (d.words + reading_tail) (entry_differs d wanted reading) some)
 
     pub found_40 : (a : WordAddress) → a ≡ record { 0 = address_of config_base d.words e.first }
-        → ◌≡◌ {A = Verdict} (record { number = 40; address = a; count = e.count }) (verdict_of d wanted reading)
+        → as_told (Differs a e.count) ≡ verdict_of d wanted reading
     found_40 a q = rw (q, s.1, s.2) (sym (verdict_40 d wanted reading some))
 
 -- ---- the answer
@@ -164,16 +168,26 @@ module _ (d : Device) (wanted reading : List ℕ) where
   unfolding verified pick
   verified_judged e f g = rw (e, f, g)
 
+-- the answer as the code gives it
+module _ (d : Device) (wanted reading : List ℕ) where
+  pub told_refused : (e : Refusal) → number_of e ≡ record_number d → verdict_told (Err e) ≡ verified d wanted reading
+  told_refused e p = let b = broken d e p in ap bare b.1 ∙ sym (verified_13 d wanted reading b.0)
+
+  pub told_21_wanted : 0 ≡ record_number d → reading_ok d.words wanted ≡ false → verdict_told (Err Reading) ≡ verified d wanted reading
+  told_21_wanted z f = sym (verified_21_wanted d wanted reading (ok_of_judged d (sym z)) f)
+
+  pub told_21_reading : 0 ≡ record_number d → reading_ok d.words wanted ≡ true → reading_ok d.words reading ≡ false → verdict_told (Err Reading) ≡ verified d wanted reading
+  told_21_reading z f g = sym (verified_21_reading d wanted reading (ok_of_judged d (sym z)) f g)
+
+  pub told_verdict : 0 ≡ record_number d → reading_ok d.words wanted ≡ true → reading_ok d.words reading ≡ true → (v : Verdict) → as_told v ≡ verdict_of d wanted reading
+      → verdict_told (Ok v) ≡ verified d wanted reading
+  told_verdict z f g v e = e ∙ sym (verified_judged d wanted reading (ok_of_judged d (sym z)) f g)
+
 -- ---- addresses
 
--- the address that a place gives; 0 where it gives none
-abbrev pub place_address : Place → WordAddress
-place_address (At a) = a
-place_address Nowhere = record { 0 = 0 }
-
 -- every entry of a reading has its address
-pub word_of_entry : (words i : ℕ) → words ≤ most_words → i < words + reading_tail → place_address (place_of config_base words reading_tail i) ≡ record { 0 = address_of config_base words i }
-word_of_entry words i most h = ap place_address (place_of_lem config_base words reading_tail i (omega arith) (omega arith) h)
+pub word_of_entry : (words i : ℕ) → words ≤ most_words → i < words + reading_tail → place_of config_base words reading_tail i ≡ Some (record { 0 = address_of config_base words i })
+word_of_entry words i most h = place_of_lem config_base words reading_tail i (omega arith) (omega arith) h
 
 -- a later entry has a higher address, so that the first entry that differs has the first address
 pub address_ascends : (words i j : ℕ) → words ≤ config_base → i < j → address_of config_base words i < address_of config_base words j

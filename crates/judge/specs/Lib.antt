@@ -2,6 +2,7 @@
 pub mod Count
 pub mod Checksum
 pub mod Verify
+pub mod LawsTold
 pub mod LawsCount
 pub mod LawsChecksum
 pub mod LawsVerify

@@ -3,37 +3,36 @@ ghost use Rattle.std.specs.Prelude.{◌≡◌, ◌+◌, ◌*◌, ◌%◌, ◌≤
 ghost use Rattle.std.specs.Int.Bits.{bit_and};
 ghost use Rattle.device.specs.Record.{most_words};
 ghost use Rattle.device.specs.Memory.{reading_tail};
-ghost use Rattle.judge.specs.Checksum.{sum_to, config_sum, nibbles, checksum_of, summed};
+ghost use Rattle.judge.specs.Checksum.{sum_to, config_sum, nibbles, checksum_of, summed, sum_told};
 
-use crate::Sum;
-use device::Device;
+use device::{Device, Sound};
+use refusal::Refusal;
 
-// The checksum of a reading of the device; or 13 or 21.
-pub fn checksum(d: Device, reading: &[u16]) -> Sum
-    ensures { result ≡ summed d reading.now }
+// The checksum of a reading of the device; or refused as a record or as a reading.
+#[tactic(auto, using(device::specs::LawsMemory::reading_long, crate::specs::LawsChecksum::told_refused, crate::specs::LawsChecksum::told_21, crate::specs::LawsChecksum::told_0))]
+pub fn checksum(d: Device, reading: &[u16]) -> Result<u16, Refusal>
+    ensures { sum_told result ≡ summed d reading.now }
 {
-    if device::judge(d) != 0 {
-        return Sum { number: 13, sum: 0 };
-    }
+    let sound = Sound::of(d)?;
     if !device::is_reading(d.words, reading) {
-        return Sum { number: 21, sum: 0 };
+        return Err(Refusal::Reading);
     }
-    Sum {
-        number: 0,
-        sum: sum_of(d, reading),
-    }
+    Ok(sum_of(sound, reading))
 }
 
 // The checksum by CP: what a protected board hides has no part in it.
-fn sum_of(d: Device, reading: &[u16]) -> u16
-    requires { (d.words ≤ most_words) × (length reading.now ≡ d.words + reading_tail) }
-    ensures { result ≡ checksum_of d reading.now }
+fn sum_of(s: Sound, reading: &[u16]) -> u16
+    requires { length reading.now ≡ s.device.words + reading_tail }
+    ensures { result ≡ checksum_of s.device reading.now }
 {
+    let d = s.device;
     let config = add_config(d, reading);
-    if device::is_protected(d.words, reading) {
-        return ((config + join_nibbles(d.words, reading)) % 65536) as u16;
-    }
-    ((add_words(d.words, reading) + config) % 65536) as u16
+    let others = if device::is_protected(d.words, reading) {
+        join_nibbles(d.words, reading)
+    } else {
+        add_words(d.words, reading)
+    };
+    ((config + others) % 65536) as u16
 }
 
 // The program words added up: they are few enough for 32 bits.

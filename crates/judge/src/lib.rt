@@ -8,17 +8,13 @@ pub use checksums::checksum;
 pub use verdicts::verify;
 use words::WordAddress;
 
-// A checksum; or 13 or 21, and nothing else.
-#[derive(Clone, Copy)]
-pub struct Sum {
-    pub number: u8,
-    pub sum: u16,
-}
-
-// 0, 40 with the first differing address and the count of differing words, or 41; or 13 or 21, and nothing else.
-#[derive(Clone, Copy)]
-pub struct Verdict {
-    pub number: u8,
-    pub address: WordAddress,
-    pub count: usize,
+// What a reading comes to that is held against a wanted one.
+#[derive(Clone, Copy, Debug, PartialEq, Eq)]
+pub enum Verdict {
+    // every word that is judged is the wanted one
+    Same,
+    // the first address at which one is not, and how many are not
+    Differs { address: WordAddress, count: usize },
+    // every word that is judged is the wanted one, and a protected board hides the others
+    Protected,
 }

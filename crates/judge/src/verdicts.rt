@@ -1,15 +1,15 @@
 // A reading held against a wanted reading.
 ghost use Rattle.std.specs.Prelude.{◌≡◌, ◌&&◌, ◌+◌, ◌≤◌, ◌<◌, length};
 ghost use Rattle.words.specs.Address.{config_base, address_of};
-ghost use Rattle.device.specs.Record.{most_words};
 ghost use Rattle.device.specs.Memory.{reading_tail, mask_at, protected};
-ghost use Rattle.judge.specs.Verify.{judged, word_differs, entry_differs, bare, verdict_of, verified};
+ghost use Rattle.judge.specs.Verify.{judged, word_differs, entry_differs, verdict_of, verified, as_told, verdict_told};
 ghost use Rattle.judge.specs.LawsCount.{Seen};
 
 use crate::Verdict;
-use device::{Device, READING_TAIL};
+use device::{Device, READING_TAIL, Sound};
+use refusal::Refusal;
 use std::ops::Range;
-use words::{CONFIG_BASE, Place, WordAddress};
+use words::{CONFIG_BASE, WordAddress};
 
 // How many words are compared at once: a verify mostly sees words that are the same.
 const STRETCH: usize = 8;
@@ -21,33 +21,32 @@ struct Differences {
     count: usize,
 }
 
-// How a reading of the device differs from the wanted one where it is judged; or 13 or 21.
-pub fn verify(d: Device, wanted: &[u16], reading: &[u16]) -> Verdict
-    ensures { result ≡ verified d wanted.now reading.now }
+// How a reading of the device differs from the wanted one where it is judged; or refused as a record or as a reading.
+#[tactic(auto, using(device::specs::LawsMemory::reading_long, crate::specs::LawsVerify::told_refused, crate::specs::LawsVerify::told_21_wanted, crate::specs::LawsVerify::told_21_reading, crate::specs::LawsVerify::told_verdict))]
+pub fn verify(d: Device, wanted: &[u16], reading: &[u16]) -> Result<Verdict, Refusal>
+    ensures { verdict_told result ≡ verified d wanted.now reading.now }
 {
-    if device::judge(d) != 0 {
-        return only(13);
-    }
+    let sound = Sound::of(d)?;
     if !device::is_reading(d.words, wanted) || !device::is_reading(d.words, reading) {
-        return only(21);
+        return Err(Refusal::Reading);
     }
-    verdict(d, wanted, reading)
+    Ok(verdict(sound, wanted, reading))
 }
 
 // What two sound readings come to.
-fn verdict(d: Device, wanted: &[u16], reading: &[u16]) -> Verdict
-    requires { (d.words ≤ most_words) × (length wanted.now ≡ d.words + reading_tail) × (length reading.now ≡ d.words + reading_tail) }
-    ensures { result ≡ verdict_of d wanted.now reading.now }
+fn verdict(s: Sound, wanted: &[u16], reading: &[u16]) -> Verdict
+    requires { (length wanted.now ≡ s.device.words + reading_tail) × (length reading.now ≡ s.device.words + reading_tail) }
+    ensures { as_told result ≡ verdict_of s.device wanted.now reading.now }
 {
+    let d = s.device;
     let hidden = device::is_protected(d.words, reading);
     match compare(d, hidden, wanted, reading) {
-        Some(found) => Verdict {
-            number: 40,
-            address: address(d.words, found.first),
+        Some(found) => Verdict::Differs {
+            address: address(s, found.first),
             count: found.count,
         },
-        None if hidden => only(41),
-        None => only(0),
+        None if hidden => Verdict::Protected,
+        None => Verdict::Same,
     }
 }
 
@@ -107,6 +106,7 @@ fn look(
 }
 
 // Whether an entry is judged and its two words differ.
+#[tactic(auto, using(words::specs::LawsChoice::tests))]
 fn differ(d: Device, hidden: bool, i: usize, wanted: u16, reading: u16) -> bool
     ensures { result ≡ (judged d.words hidden i && word_differs (mask_at d i) wanted reading) }
 {
@@ -114,46 +114,33 @@ fn differ(d: Device, hidden: bool, i: usize, wanted: u16, reading: u16) -> bool
 }
 
 // Whether two words differ in a bit that their entry has: program words and user IDs have every bit.
+#[tactic(auto, using(crate::specs::LawsVerify::words_same, crate::specs::LawsVerify::words_other, crate::specs::LawsVerify::words_under))]
 fn word_differs(d: Device, i: usize, wanted: u16, reading: u16) -> bool
     ensures { result ≡ word_differs (mask_at d i) wanted reading }
 {
-    if wanted == reading {
-        return false;
-    }
-    if i < (d.words as usize) + 7 {
-        return true;
-    }
-    device::under_mask(d, i, wanted, reading) != reading
+    wanted != reading
+        && (i < usize::from(d.words) + 7 || device::under_mask(d, i, wanted, reading) != reading)
 }
 
 // Program words are judged unless they are hidden, user IDs and configuration words always.
+#[tactic(auto, using(words::specs::LawsChoice::tests), unfolding(crate::specs::Verify::judged))]
 fn is_judged(words: u16, hidden: bool, i: usize) -> bool
     ensures { result ≡ judged words hidden i }
 {
-    if i < words as usize {
-        return !hidden;
-    }
-    device::programmable(words, i)
+    device::programmable(words, i) && !(hidden && i < usize::from(words))
 }
 
 // The address of an entry of a reading.
-fn address(words: u16, entry: usize) -> WordAddress
-    requires { (words ≤ most_words) × (entry < words + reading_tail) }
-    ensures { result ≡ (record { 0 = address_of config_base words entry }) }
+#[tactic(auto, using(crate::specs::LawsVerify::word_of_entry))]
+fn address(s: Sound, entry: usize) -> WordAddress
+    requires { entry < s.device.words + reading_tail }
+    ensures { result ≡ (record { 0 = address_of config_base s.device.words entry }) }
 {
-    match words::address::address_of(WordAddress(CONFIG_BASE), words, READING_TAIL as u8, entry) {
-        Place::At(a) => a,
-        Place::Nowhere => WordAddress(0),
-    }
-}
-
-// A verdict that names nothing but its number.
-fn only(number: u8) -> Verdict
-    ensures { result ≡ bare number }
-{
-    Verdict {
-        number,
-        address: WordAddress(0),
-        count: 0,
-    }
+    words::address::address_of(
+        WordAddress(CONFIG_BASE),
+        s.device.words,
+        READING_TAIL as u8,
+        entry,
+    )
+    .unwrap()
 }
