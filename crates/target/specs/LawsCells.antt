@@ -1,15 +1,18 @@
 -- What an order's way through the code makes of the cells, and the word read, for any chip: one rule for each way.
-use Rattle.std.specs.Prelude.{ℕ, ◌+◌, ◌-◌, ◌*◌, ◌/◌, ◌%◌, ◌≤◌, ◌<◌, ◌≡◌, refl, Bool, true, false, ◌||◌, List, length, get_or, set}
+use Rattle.std.specs.Prelude.{ℕ, ◌+◌, ◌-◌, ◌*◌, ◌/◌, ◌%◌, ◌≤◌, ◌<◌, ◌≡◌, refl, Bool, true, false, ◌||◌, List, length, get_or, set, replicate}
 use Rattle.std.proofs.Common.{arith, sym, ◌∙◌, le-ltb}
 use Rattle.std.proofs.Math.Decide.{dec_lt}
 use Rattle.std.proofs.Math.Path.{ap}
 use Rattle.std.specs.Int.Bits.{bit_and}
 use Rattle.std.proofs.Math.Arith.{digits_mod}
+use Rattle.std.proofs.lemmas.List.{places}
+use borrow.Author.Rules.{rules}
+use borrow.Rule.Slice.PartMut.{put_mid}
 use Rattle.words.specs.Choice.{pick}
 use Rattle.words.specs.Word.{erased}
 use Rattle.words.specs.Lists.{in_range, overlay}
 use Rattle.words.specs.LawsChoice.{pick_true, pick_false}
-use Rattle.words.specs.LawsLists.{get_d_past, overlay_above, overlay_more, overlay_same, build_ext}
+use Rattle.words.specs.LawsLists.{get_d_past, same_entries, length_overlay, overlay_below, overlay_inside, overlay_above, overlay_more, overlay_same, build_ext}
 use Rattle.words.specs.Address.{config_base, entry_of}
 use Rattle.words.specs.LawsAddress.{entry_config, entry_beyond}
 use Rattle.device.specs.declared.Device.{Device}
@@ -22,9 +25,21 @@ use Rattle.target.specs.Chip.{Chip, chip_of}
 use Rattle.target.specs.Effects.{locked, edit, in_program, at_erase, row_erased, bulk_erased, begin_written, latch_of, burnt, word_read}
 use Rattle.target.specs.LawsChip.{SoundChip, sound_chip}
 use Rattle.target.specs.LawsEdit.{edit_none, edit_range, edit_one, edit_ext, edit_then}
-use Rattle.target.specs.LawsHits.{in_program_lem, not_program, latch_within, row_within, at_erase_lem, below_erase, above_erase}
+use Rattle.target.specs.LawsHits.{in_program_lem, not_program, latch_within, row_within}
 use Rattle.target.specs.LawsHits.{row_erased_program, row_erased_locked, row_erased_nowhere, row_erased_ids, bulk_erased_ids, bulk_erased_words}
 use Rattle.target.specs.LawsHits.{begin_written_program, begin_written_locked, begin_written_between, begin_written_not, begin_written_one}
+
+-- ---- a range that is filled with one word
+
+pub filled : (first count k w : ℕ) (l m : List ℕ) → first + count ≤ length l → k ≡ count → m ≡ replicate count w → put_mid first k l m ≡ overlay first count (λ i. w) l
+filled first count k w l m h s e =
+    rw (s, e)
+    (same_entries _ _ (search (rules, places) ∙ sym (length_overlay first count (λ i. w) l)) (λ i p. at_each i (dec_lt i first) (dec_lt i (first + count))))
+  where
+    at_each : (i : ℕ) → Dec (i < first) → Dec (i < first + count) → get_or (put_mid first count l (replicate count w)) i 0 ≡ get_or (overlay first count (λ i. w) l) i 0
+    at_each i (yes p) q = grind (arith, places) ∙ sym (overlay_below first count (λ i. w) l i p)
+    at_each i (no p) (yes q) = grind (arith, places) ∙ sym (overlay_inside first count (λ i. w) l i (omega arith) (omega arith) q)
+    at_each i (no p) (no q) = grind (arith, places) ∙ sym (overlay_above first count (λ i. w) l i (omega arith))
 
 -- ---- the word read: b is whether the cells are protected, as the code has found
 
@@ -56,15 +71,12 @@ module _ (chip : Chip) (s : SoundChip chip) (a : ℕ) (cells : List ℕ) where
       → (after : List ℕ) → after ≡ overlay (a / chip.row * chip.row) chip.row (λ i. erased) cells → after ≡ edit (row_erased chip a cells) (λ i. erased) cells
   row_erase_program h b e p after f = f ∙ sym (edit_range _ _ cells (a / chip.row * chip.row) chip.row (λ i q. row_erased_program chip s a cells i h (sym e ∙ p)))
 
-  pub row_erase_between : chip.words ≤ a → a < chip.base → cells ≡ edit (row_erased chip a cells) (λ i. erased) cells
-  row_erase_between h p = sym (edit_none _ _ cells (λ i. row_erased_nowhere chip s a cells i h (below_erase chip a p)))
+  pub row_erase_nowhere : chip.words ≤ a → at_erase chip a ≡ false → cells ≡ edit (row_erased chip a cells) (λ i. erased) cells
+  row_erase_nowhere h e = sym (edit_none _ _ cells (λ i. row_erased_nowhere chip s a cells i h e))
 
-  pub row_erase_beyond : chip.words ≤ a → chip.base + chip.reading_tail ≤ a → cells ≡ edit (row_erased chip a cells) (λ i. erased) cells
-  row_erase_beyond h p = sym (edit_none _ _ cells (λ i. row_erased_nowhere chip s a cells i h (above_erase chip a p)))
-
-  pub row_erase_ids : chip.row_erases_ids ≡ true → chip.words ≤ a → chip.base ≤ a → a < chip.base + chip.reading_tail
+  pub row_erase_ids : chip.row_erases_ids ≡ true → chip.words ≤ a → at_erase chip a ≡ true
       → (after : List ℕ) → after ≡ overlay chip.words chip.ids (λ i. erased) cells → after ≡ edit (row_erased chip a cells) (λ i. erased) cells
-  row_erase_ids t h p q after f = f ∙ sym (edit_range _ _ cells chip.words chip.ids (λ i k. row_erased_ids chip s a cells i t (at_erase_lem chip a p q) h))
+  row_erase_ids t h e after f = f ∙ sym (edit_range _ _ cells chip.words chip.ids (λ i k. row_erased_ids chip s a cells i t e h))
 
 -- ---- Bulk Erase: two ranges, and a third with the user IDs
 
@@ -76,22 +88,16 @@ module _ (chip : Chip) (first count : ℕ) (configs : (k : ℕ) → chip.is_conf
       ∙ (ap (overlay (chip.words + first) count (λ i. erased)) (e ∙ sym (edit_range (in_range 0 chip.words) (λ i. erased) cells 0 chip.words (λ i h. refl)))
       ∙ edit_then (in_range 0 chip.words) erased (chip.words + first) count cells)
 
-  words_only : at_erase chip a ≡ false → two ≡ edit (bulk_erased chip a) (λ i. erased) cells
-  words_only n = both_ranges ∙ sym (edit_ext _ _ (λ i. erased) cells (λ i h. bulk_erased_words chip first count configs a i n))
+  pub bulk_erase_words : at_erase chip a ≡ false → two ≡ edit (bulk_erased chip a) (λ i. erased) cells
+  bulk_erase_words n = both_ranges ∙ sym (edit_ext _ _ (λ i. erased) cells (λ i h. bulk_erased_words chip first count configs a i n))
 
-  pub bulk_erase_below : a < chip.base → two ≡ edit (bulk_erased chip a) (λ i. erased) cells
-  bulk_erase_below h = words_only (below_erase chip a h)
-
-  pub bulk_erase_beyond : chip.base + chip.reading_tail ≤ a → two ≡ edit (bulk_erased chip a) (λ i. erased) cells
-  bulk_erase_beyond h = words_only (above_erase chip a h)
-
-  pub bulk_erase_ids : chip.base ≤ a → a < chip.base + chip.reading_tail → (three : List ℕ) → three ≡ overlay chip.words chip.ids (λ i. erased) two
+  pub bulk_erase_ids : at_erase chip a ≡ true → (three : List ℕ) → three ≡ overlay chip.words chip.ids (λ i. erased) two
       → three ≡ edit (bulk_erased chip a) (λ i. erased) cells
-  bulk_erase_ids p q three g =
+  bulk_erase_ids p three g =
       g
       ∙ (ap (overlay chip.words chip.ids (λ i. erased)) both_ranges
       ∙ (edit_then (λ i. in_range 0 chip.words i || in_range (chip.words + first) count i) erased chip.words chip.ids cells
-      ∙ sym (edit_ext _ _ (λ i. erased) cells (λ i h. bulk_erased_ids chip first count configs a i (at_erase_lem chip a p q)))))
+      ∙ sym (edit_ext _ _ (λ i. erased) cells (λ i h. bulk_erased_ids chip first count configs a i p))))
 
 -- ---- Begin
 

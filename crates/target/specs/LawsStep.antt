@@ -1,12 +1,13 @@
 -- Laws of a step: what the code's parts leave, put together, and the call for a single step.
-use Rattle.std.specs.Prelude.{ℕ, ◌≤◌, ◌<◌, ◌≡◌, true, false, List, get_or}
+use Rattle.std.specs.Prelude.{ℕ, zero, suc, ◌≤◌, ◌<◌, ◌≡◌, true, false, List, length, get_or, take}
 use Rattle.std.proofs.Math.Path.{refl}
-use Rattle.std.proofs.Common.{sym, ap, ◌∙◌}
+use Rattle.std.proofs.Common.{sym, ap, ◌∙◌, arith, eq-eqb, length-take-le}
+use Rattle.std.proofs.lemmas.List.{get_or-take}
 use Rattle.words.specs.Choice.{pick}
-use Rattle.words.specs.Word.{is_word}
+use Rattle.words.specs.Word.{is_word, words_of}
+use Rattle.words.specs.Lists.{every}
 use Rattle.words.specs.LawsLists.{every_all, every_no}
 use Rattle.words.specs.LawsWord.{is_word_lem, not_word}
-use Rattle.words.specs.declared.WordAddress.{WordAddress}
 use Rattle.device.specs.declared.Device.{Device}
 use Rattle.device.specs.Record.{device_ok}
 use Rattle.target.specs.Chip.{Chip, chip_of}
@@ -23,25 +24,16 @@ use Rattle.target.specs.declared.Registers.{Registers}
 abbrev pub target : Registers → (read : ℕ) → (words cells : List ℕ) → Target
 target r read words cells = record { registers = r; cells = cells; words = words; read = read }
 
--- registers of their parts
-abbrev pub held : WordAddress → (latches : List ℕ) → Registers
-held counter latches = record { counter = counter; latches = latches }
-
--- the code answers this number and leaves these parts, and that is just this effect
-pub record Leaves (e : Effect Target) (number : ℕ) (r : Registers) (read : ℕ) (words cells : List ℕ) : Type 0 where
-  pub whole : stops number (target r read words cells) ≡ e
-
 -- ---- a step that is no order is refused, any other is its order
 
-module _ (chip : Chip) (s : Decoded) (r : Registers) (read : ℕ) (words cells : List ℕ) where
-  pub step_refused : (x : Decoded) (n : ℕ) → x ≡ s → x ≡ Refused n → Leaves (step_effect chip s (target r read words cells)) n r read words cells
+module _ (chip : Chip) (s : Decoded) (t : Target) where
+  pub step_refused : (x : Decoded) (n : ℕ) → x ≡ s → x ≡ Refused n → stops n t ≡ step_effect chip s t
   unfolding step_effect
-  step_refused x n q p = rw (← q, p) (record { whole = refl })
+  step_refused x n q p = rw (← q, p)
 
-  pub step_does : (x : Decoded) (o : Order) → x ≡ s → x ≡ Do o → (number : ℕ) (r' : Registers) (read' : ℕ) (words' cells' : List ℕ)
-      → Leaves (effect chip o (target r read words cells)) number r' read' words' cells' → Leaves (step_effect chip s (target r read words cells)) number r' read' words' cells'
+  pub step_does : (x : Decoded) (o : Order) → x ≡ s → x ≡ Do o → step_effect chip s t ≡ effect chip o t
   unfolding step_effect
-  step_does x o q p number r' read' words' cells' b = rw (← q, p) b
+  step_does x o q p = rw (← q, p)
 
 -- ---- the latches that count
 
@@ -53,6 +45,16 @@ module _ (chip : Chip) (latches : List ℕ) where
   pub latch_high : (i : ℕ) → i < chip.group → 0x4000 ≤ get_or latches i 0 → sound_latches chip latches ≡ false
   unfolding sound_latches
   latch_high i p h = every_no chip.group (λ i. is_word (get_or latches i 0)) i p (not_word (get_or latches i 0) h)
+
+-- the same, asked of the first latches as a list
+every_taken : (l : List ℕ) (m n : ℕ) → n ≤ m → every n (λ i. is_word (get_or (take m l) i 0)) ≡ every n (λ i. is_word (get_or l i 0))
+unfolding every
+every_taken l m zero h = refl
+every_taken l m (suc n) h = rw (every_taken l m n (omega arith), get_or-take m l n 0 (omega arith))
+
+pub sound_taken : (chip : Chip) (latches : List ℕ) → chip.group ≤ length latches → words_of chip.group (take chip.group latches) ≡ sound_latches chip latches
+unfolding sound_latches words_of
+sound_taken chip latches h = rw (eq-eqb (length (take chip.group latches)) chip.group (length-take-le _ _ h), every_taken latches chip.group chip.group (omega arith))
 
 -- ---- the call for a single step
 
@@ -82,6 +84,6 @@ module _ (d : Device) (r : Registers) (code payload : ℕ) (words cells : List �
     unfolding stepped unread pick
     stepped_on = rw (t, s, l)
 
-    pub steps_on : (number : ℕ) (r' : Registers) (read' : ℕ) (words' cells' : List ℕ)
-        → Leaves (step_effect (chip_of d) (decoded code payload) (target r 0 words cells)) number r' read' words' cells' → Steps d r code payload words cells number r' words' cells'
-    steps_on number r' read' words' cells' a = steps_so (stops number (target r' read' words' cells')) (stepped_on ∙ sym a.whole)
+    pub steps_on : (number : ℕ) (t' : Target) → stops number t' ≡ step_effect (chip_of d) (decoded code payload) (target r 0 words cells)
+        → (words' cells' : List ℕ) → words' ≡ t'.words → cells' ≡ t'.cells → Steps d r code payload words cells number t'.registers words' cells'
+    steps_on number t' e words' cells' p q = rw (p, q) (steps_so (stops number t') (stepped_on ∙ sym e))

@@ -15,6 +15,7 @@ pub mod LawsHits
 pub mod LawsCells
 pub mod LawsStep
 pub mod LawsOrders
+pub mod LawsHeld
 pub mod LawsModel
 pub mod LawsRun
 pub mod LawsKept

@@ -1,4 +1,6 @@
 // Codes and payloads.
+#![tactic(auto, using(words::specs::LawsChoice::tests), unfolding(crate::specs::Step::decoded, crate::specs::Step::load, crate::specs::Step::load_ok, crate::specs::Step::plain, words::specs::Choice::pick))]
+
 ghost use Rattle.std.specs.Prelude.{◌≡◌};
 ghost use Rattle.target.specs.Step.{load, plain, decoded};
 
@@ -8,44 +10,28 @@ use crate::{Decoded, Order};
 pub(crate) fn decode(code: u8, payload: u16) -> Decoded
     ensures { result ≡ decoded code payload }
 {
-    if code == 0x00 {
-        return with_word(payload, Order::LoadConfiguration(payload / 2));
+    match code {
+        0x00 => with_word(payload, Order::LoadConfiguration(payload / 2)),
+        0x02 => with_word(payload, Order::LoadData(payload / 2)),
+        0x04 => without(payload, Order::Read),
+        0x06 => without(payload, Order::Increment),
+        0x16 => without(payload, Order::ResetAddress),
+        0x08 => without(payload, Order::Begin),
+        0x09 => without(payload, Order::BulkErase),
+        0x11 => without(payload, Order::RowErase),
+        _ => Decoded::Refused(30),
     }
-    if code == 0x02 {
-        return with_word(payload, Order::LoadData(payload / 2));
-    }
-    if code == 0x04 {
-        return without(payload, Order::Read);
-    }
-    if code == 0x06 {
-        return without(payload, Order::Increment);
-    }
-    if code == 0x16 {
-        return without(payload, Order::ResetAddress);
-    }
-    if code == 0x08 {
-        return without(payload, Order::Begin);
-    }
-    if code == 0x09 {
-        return without(payload, Order::BulkErase);
-    }
-    if code == 0x11 {
-        return without(payload, Order::RowErase);
-    }
-    Decoded::Refused(30)
 }
 
 // A load's payload is a word times two.
 fn with_word(payload: u16, order: Order) -> Decoded
     ensures { result ≡ load payload order }
 {
-    if payload % 2 == 0 {
-        if payload <= 0x7ffe {
-            return Decoded::Do(order);
-        }
-        return Decoded::Refused(31);
+    if payload % 2 == 0 && payload <= 0x7ffe {
+        Decoded::Do(order)
+    } else {
+        Decoded::Refused(31)
     }
-    Decoded::Refused(31)
 }
 
 // Every other payload is 0.

@@ -1,26 +1,27 @@
 // What orders do to the counter and the latches.
-ghost use Rattle.std.specs.Prelude.{◌≡◌, ◌%◌, ◌<◌, set};
+ghost use Rattle.std.specs.Prelude.{◌≡◌, ◌%◌, ◌<◌};
 ghost use Rattle.words.specs.Address.{config_base, successor};
-ghost use Rattle.device.specs.LawsRecord.{Rules};
+ghost use Rattle.target.specs.Step.{place, sound_latches};
+ghost use Rattle.target.specs.LawsHeld.{chip_at, target_of};
 
-use device::Device;
+use crate::board::Board;
 use words::{CONFIG_BASE, WordAddress};
 
-// Load Data: the latch of the counter takes the word.
-pub(crate) fn load_latch(d: Device, at: WordAddress, w: u16, latches: &mut [u16; 32])
-    requires { Rules d }
-    ensures { latches.new ≡ set latches.old (at.0 % d.row) w }
-{
-    let latch = latch_of(d, at);
-    latches[latch] = w;
-}
+impl Board<'_> {
+    // The latch of the counter, the counter mod R: R is a power of two, so these are the counter's low bits.
+    pub(crate) fn latch(&self) -> usize
+        ensures { (result ≡ place (target_of self.now) % self.now.device.row) × (result < 32) }
+    {
+        (self.registers.counter.0 & (self.device.row - 1)) as usize
+    }
 
-// The latch of a counter, the counter mod R: R is a power of two, so these are the counter's low bits.
-fn latch_of(d: Device, at: WordAddress) -> usize
-    requires { Rules d }
-    ensures { (result ≡ at.0 % d.row) × (result < 32) }
-{
-    (at.0 & (d.row - 1)) as usize
+    // Whether the latches that count are words.
+    pub(crate) fn has_words(&self) -> bool
+        ensures { result ≡ sound_latches (chip_at self.now) self.now.registers.latches }
+    {
+        let row = self.device.row as usize;
+        words::list::is_words(&self.registers.latches[..row], row)
+    }
 }
 
 // Increment: the highest bit tells the space and stays, and the others count around.

@@ -1,6 +1,7 @@
 // The target model: what a board does with each step. No public call here has a `requires`.
 #![tactic(auto)]
 
+mod board;
 mod carried;
 mod cells;
 mod decode;

@@ -1,16 +1,11 @@
 // A trial run: entry, and then as many steps of a stream as it may take.
-ghost use Rattle.std.specs.Prelude.{◌≡◌, ◌+◌, ◌*◌, ◌≤◌, ◌<◌, min, length, get_or};
-ghost use Rattle.device.specs.Memory.{cells_tail};
-ghost use Rattle.device.specs.LawsRecord.{Rules};
-ghost use Rattle.target.specs.Chip.{chip_of};
-ghost use Rattle.target.specs.Model.{code_at, payload_at};
-ghost use Rattle.target.specs.Step.{decoded, step_effect};
+ghost use Rattle.std.specs.Prelude.{◌≡◌, ◌+◌, ◌*◌, ◌≤◌, ◌<◌, length, get_or};
 ghost use Rattle.target.specs.Run.{run_refusal, Runs};
-ghost use Rattle.target.specs.LawsStep.{target, held, Leaves};
 ghost use Rattle.target.specs.LawsRun.{Goes};
+ghost use Rattle.target.specs.LawsHeld.{chip_at, target_of};
 
-use crate::Ran;
-use crate::single::{Obeyed, perform};
+use crate::board::Board;
+use crate::{Ran, Registers};
 use device::{CELLS_TAIL, Device};
 use words::{ERASED, WordAddress};
 
@@ -26,7 +21,18 @@ pub fn run(d: Device, cells: &mut [u16], stream: &[u8], allowance: usize, words:
             words: 0,
         };
     }
-    go(d, cells, stream, least(allowance, stream.len() / 3), words)
+    let registers = Registers {
+        counter: WordAddress(0),
+        latches: [ERASED; 32],
+    };
+    let mut board = Board {
+        device: d,
+        registers,
+        read: 0,
+        words,
+        cells,
+    };
+    board.go(stream, allowance.min(stream.len() / 3))
 }
 
 // What stops a run before its first step.
@@ -36,7 +42,7 @@ fn refusal_before(d: Device, cells: &[u16], stream: &[u8]) -> u8
     if device::judge(d) != 0 {
         return 13;
     }
-    if words::list::is_words(cells, (d.words as usize) + CELLS_TAIL) {} else {
+    if !words::list::is_words(cells, (d.words as usize) + CELLS_TAIL) {
         return 32;
     }
     if stream.len() % 3 != 0 {
@@ -45,62 +51,31 @@ fn refusal_before(d: Device, cells: &[u16], stream: &[u8]) -> u8
     0
 }
 
-// The steps, in turn, on a target that has been judged.
-fn go(d: Device, cells: &mut [u16], stream: &[u8], steps: usize, words: &mut [u16]) -> Ran
-    requires rules { Rules d }
-    requires cells_len { (length cells.old ≡ d.words + cells_tail) × (3 * steps ≤ length stream.now) }
-    ensures { Goes (chip_of d) (run_refusal d) stream.now steps words.old cells.old result words.new cells.new }
-{
-    let mut counter = WordAddress(0);
-    let mut latches = [ERASED; 32];
-    let mut read = 0;
-    let mut done = 0;
-    while done < steps {
-        let o = next_step(d, stream, done, counter, read, &mut latches, words, cells);
-        let number = o.number;
-        if number != 0 {
-            return Ran {
-                number,
-                steps: done,
-                words: 0,
-            };
+impl Board<'_> {
+    // So many steps of a stream, in turn.
+    fn go(&mut self, stream: &[u8], steps: usize) -> Ran
+        requires { 3 * steps ≤ length stream.now }
+        ensures goes { Goes (chip_at self.old) (run_refusal self.old.device) stream.now steps (target_of self.old) result (target_of self.new) }
+        ensures same_words { self.new.words.ghost_name ≡ self.old.words.ghost_name }
+        ensures same_cells { self.new.cells.ghost_name ≡ self.old.cells.ghost_name }
+    {
+        for done in 0..steps {
+            let first = 3 * done;
+            let number = self.perform(stream[first], payload_at(stream, first));
+            if number != 0 {
+                return Ran {
+                    number,
+                    steps: done,
+                    words: 0,
+                };
+            }
         }
-        counter = o.counter;
-        read = o.read;
-        done += 1;
+        Ran {
+            number: 0,
+            steps,
+            words: self.read,
+        }
     }
-    Ran {
-        number: 0,
-        steps: done,
-        words: read,
-    }
-}
-
-fn next_step(
-    d: Device,
-    stream: &[u8],
-    k: usize,
-    at: WordAddress,
-    read: usize,
-    latches: &mut [u16; 32],
-    words: &mut [u16],
-    cells: &mut [u16],
-) -> Obeyed
-    requires rules { Rules d }
-    requires cells_len { (length cells.old ≡ d.words + cells_tail) × (read ≤ length words.old) × (3 * k + 3 ≤ length stream.now) }
-    ensures { Leaves (step_effect (chip_of d) (decoded (code_at stream.now k) (payload_at stream.now k)) (target (held at latches.old) read words.old cells.old)) result.number (held result.counter latches.new) result.read words.new cells.new }
-{
-    let first = 3 * k;
-    perform(
-        d,
-        stream[first],
-        payload_at(stream, first),
-        at,
-        read,
-        latches,
-        words,
-        cells,
-    )
 }
 
 fn payload_at(stream: &[u8], at: usize) -> u16
@@ -108,10 +83,4 @@ fn payload_at(stream: &[u8], at: usize) -> u16
     ensures { result ≡ get_or stream.now (at + 1) 0 + 256 * get_or stream.now (at + 2) 0 }
 {
     (stream[at + 1] as u16) + 256 * (stream[at + 2] as u16)
-}
-
-fn least(a: usize, b: usize) -> usize
-    ensures { result ≡ min a b }
-{
-    if a < b { a } else { b }
 }
