@@ -5,9 +5,8 @@ use Rattle.device.specs.declared.Device.{Device}
 use Rattle.target.specs.Chip.{chip_of}
 use Rattle.target.specs.Model.{code_at, payload_at}
 use Rattle.target.specs.Step.{Steps}
-use Rattle.target.specs.Run.{entered}
+use Rattle.target.specs.Run.{entered, Ran}
 use Rattle.target.specs.declared.Registers.{Registers}
-use Rattle.target.specs.declared.Ran.{Ran}
 
 -- how many words a step of this code reads, where it is not refused: Read reads one
 unfoldable pub read_count : (code : ℕ) → ℕ

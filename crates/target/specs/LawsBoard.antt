@@ -3,7 +3,7 @@ use Rattle.std.specs.Prelude.{ℕ, ◌/◌, ◌%◌, ◌≡◌, List, [], ◌∷
 use Rattle.std.proofs.Math.Path.{refl}
 use Rattle.std.proofs.Common.{ap, ◌∙◌}
 use Rattle.target.specs.Chip.{Chip}
-use Rattle.target.specs.Step.{Target, effect, step_effect, decoded, unread}
+use Rattle.target.specs.Step.{Do, Target, effect, step_effect, decoded, unread}
 use Rattle.target.specs.Run.{entered, model_on}
 use Rattle.target.specs.Model.{done}
 use Rattle.target.specs.Cut.{Torn, Recovers}
@@ -13,7 +13,6 @@ use Rattle.target.specs.Stream.{code_of, payload_of, step_bytes, bytes_of}
 use Rattle.target.specs.LawsStream.{FitsOrder, FitsAll, decoded_order}
 use Rattle.target.specs.LawsSpelt.{Spelling, recovers_to}
 use Rattle.target.specs.declared.Order.{Order}
-use Rattle.target.specs.declared.Decoded.TheVariants.{Do}
 
 pub no_bytes : bytes_of [] ≡ []
 unfolding bytes_of

@@ -1,23 +1,29 @@
 -- Laws of the call for a run: what stops it before its first step, its loop over the steps, and its answer.
-use Rattle.std.specs.Prelude.{ℕ, suc, ◌+◌, ◌*◌, ◌/◌, ◌%◌, ◌≤◌, ◌<◌, min, ◌≡◌, Bool, List, eqb, get_or}
+use Rattle.std.specs.Prelude.{ℕ, suc, ◌+◌, ◌*◌, ◌/◌, ◌%◌, ◌≤◌, ◌<◌, min, ◌≡◌, Bool, List, eqb, get_or, ltb, Result, Ok, Err}
 use Rattle.std.proofs.Math.Nat.{min-le_right}
 use Rattle.std.proofs.Common.{add-one, arith, ◌∙◌}
 use Rattle.std.proofs.Math.Path.{refl, sym, ap}
 use Rattle.std.proofs.Math.Bool.{true, false}
 use Rattle.std.proofs.Math.ListN.{length}
-use borrow.Author.Tests.{eq-eqb, ne_eqb}
+use Rattle.std.proofs.Math.Decide.{dec_lt}
+use borrow.Author.Tests.{eq-eqb, ne_eqb, lt-ltb, le-ltb}
 use Rattle.words.specs.Choice.{pick}
 use Rattle.words.specs.LawsChoice.{pick_false, pick_same}
 use Rattle.words.specs.LawsWord.{words_long}
 use Rattle.device.specs.declared.Device.{Device}
 use Rattle.device.specs.Record.{device_ok}
+use Rattle.refusal.specs.Refusal.{number_of}
+use Rattle.refusal.specs.LawsRefusal.{number_of_unique, number_of_positive}
 use Rattle.target.specs.Chip.{Chip, chip_of}
 use Rattle.target.specs.Model.{code_at, payload_at, stops, turn, after}
-use Rattle.target.specs.Step.{Target, decoded, step_effect, unread, sound_cells}
-use Rattle.target.specs.Run.{entered, run_refusal, model_on, model_of, ran, answered, Runs}
+use Rattle.target.specs.Step.{Decoded, Do, Refused, Target, place, decoded, effect, step_effect, unread, sound_cells}
+use Rattle.target.specs.declared.Ran as code
+use Rattle.target.specs.declared.Stopped.{Stopped}
+use Rattle.target.specs.declared.Order.{Order}
+use Rattle.target.specs.declared.Order.TheVariants.{LoadConfiguration, LoadData, Read, Increment, ResetAddress, Begin, BulkErase, RowErase}
+use Rattle.target.specs.Run.{Ran, ran_told, entered, run_refusal, model_on, model_of, ran, answered, Runs}
 use Rattle.target.specs.LawsModel.{stands, turn_done, turn_refused, after_zero, after_suc, after_stays, run_refused_first, run_takes}
-use Rattle.target.specs.LawsStep.{target}
-use Rattle.target.specs.declared.Ran.{Ran}
+use Rattle.target.specs.LawsStep.{judged, target}
 
 -- ---- a step of the stream
 
@@ -25,6 +31,32 @@ pub step_is : (stream : List ℕ) (k payload : ℕ) → payload ≡ get_or strea
     → decoded (get_or stream (3 * k) 0) payload ≡ decoded (code_at stream k) (payload_at stream k)
 unfolding code_at payload_at
 step_is stream k payload e = rw e
+
+-- no step reads past the buffer
+module _ (chip : Chip) (t : Target) (low : t.read ≤ length t.words) where
+  order_within : (o : Order) → (effect chip o t).target.read ≤ length t.words
+  unfolding effect pick
+  order_within (LoadConfiguration w) = low
+  order_within (LoadData w) = low
+  order_within Read = by (dec_lt t.read (length t.words))
+    where
+      by : Dec (t.read < length t.words) → (effect chip Read t).target.read ≤ length t.words
+      by (yes h) = rw (lt-ltb t.read (length t.words) h) (omega arith)
+      by (no h) = rw (le-ltb t.read (length t.words) (omega arith)) low
+  order_within Increment = low
+  order_within ResetAddress = low
+  order_within Begin = low
+  order_within BulkErase = by (ltb (place t) (chip.base + chip.reading_tail)) refl
+    where
+      by : (b : Bool) → ltb (place t) (chip.base + chip.reading_tail) ≡ b → (effect chip BulkErase t).target.read ≤ length t.words
+      by true e = rw e low
+      by false e = rw e low
+  order_within RowErase = low
+
+  pub step_within : (s : Decoded) → (step_effect chip s t).target.read ≤ length t.words
+  unfolding step_effect
+  step_within (Do o) = order_within o
+  step_within (Refused n) = low
 
 -- ---- the code's loop
 
@@ -101,6 +133,16 @@ module _ (d : Device) (stream cells : List ℕ) where
   unfolding run_refusal pick
   before_none t s h = rw (t, s, eq-eqb (length stream % 3) 0 h)
 
+  -- a run that no step is done on
+  pub before_judged : (n : ℕ) → n ≡ judged d cells → 0 < n → n ≡ run_refusal d stream cells
+  unfolding run_refusal judged pick
+  before_judged n e h = by (device_ok d) (sound_cells (chip_of d) cells) e
+    where
+      by : (a b : Bool) → n ≡ pick a (pick b 0 32) 13 → n ≡ pick a (pick b (pick (eqb (length stream % 3) 0) 0 34) 32) 13
+      by true true q = absurd (omega arith)
+      by true false q = q
+      by false b q = q
+
   -- what no refusal tells
   pub before_sound : run_refusal d stream cells ≡ 0 → (device_ok d ≡ true) × (sound_cells (chip_of d) cells ≡ true)
   unfolding run_refusal pick
@@ -133,3 +175,17 @@ module _ (d : Device) (stream : List ℕ) (allowance : ℕ) (words cells : List 
 
       left : t ≡ (ran d stream allowance cells words).target
       left = g.left ∙ ap (λ x. x.target) whole
+
+  -- the same, asked of the board's own device
+  pub run_goes_on : 0 ≡ run_refusal d stream cells → (own : Device) → own ≡ d → (steps : ℕ) → steps ≡ min allowance (length stream / 3)
+      → (a : Ran) (t : Target) → Goes (chip_of own) (run_refusal own) stream steps (target (entered (chip_of own)) 0 words cells) a t
+      → (words' cells' : List ℕ) → words' ≡ t.words → cells' ≡ t.cells → Runs d stream allowance words cells a words' cells'
+  run_goes_on z own same steps s a t g words' cells' p q = run_goes 0 steps z refl s a t (rw same at g) words' cells' p q
+
+-- ---- two answers that are told alike are one
+
+pub ran_unique : (a b : Result code.Ran Stopped) → ran_told a ≡ ran_told b → a ≡ b
+ran_unique (Ok x) (Ok y) e = λ i. Ok (record { steps = (e i).steps; words = (e i).words })
+ran_unique (Ok x) (Err t) e = absurd (let z : 0 ≡ number_of t.refusal = ap (λ r. r.number) e in omega (arith, number_of_positive t.refusal))
+ran_unique (Err s) (Ok y) e = absurd (let z : number_of s.refusal ≡ 0 = ap (λ r. r.number) e in omega (arith, number_of_positive s.refusal))
+ran_unique (Err s) (Err t) e = λ i. Err (record { refusal = number_of_unique s.refusal t.refusal (ap (λ r. r.number) e) i; steps = (e i).steps })

@@ -14,18 +14,15 @@ use Rattle.device.specs.LawsRecord.{rules_lem}
 use Rattle.target.specs.Chip.{Chip, chip_of}
 use Rattle.target.specs.Effects.{word_read}
 use Rattle.target.specs.Model.{Effect, done, stops, code_at, payload_at, Run, turn, after}
-use Rattle.target.specs.Step.{Target, place, decoded, effect, step_effect, sound_cells, sound_latches, stepped, unread, Steps}
-use Rattle.target.specs.Run.{entered, run_refusal, model_of, ran, answered, Runs}
+use Rattle.target.specs.Step.{Decoded, Do, Refused, Target, place, decoded, effect, step_effect, sound_cells, sound_latches, stepped, unread, Steps}
+use Rattle.target.specs.Run.{Ran, entered, run_refusal, model_of, ran, answered, Runs}
 use Rattle.target.specs.LawsChip.{sound_chip, burning}
 use Rattle.target.specs.LawsStep.{target, steps_so, stepped_on}
 use Rattle.target.specs.LawsModel.{stands, turn_done, turn_refused, turn_stays, after_zero, after_suc, run_takes}
 use Rattle.target.specs.LawsRun.{before_sound}
 use Rattle.target.specs.declared.Order.{Order}
 use Rattle.target.specs.declared.Order.TheVariants.{LoadConfiguration, LoadData, Read, Increment, ResetAddress, Begin, BulkErase, RowErase}
-use Rattle.target.specs.declared.Decoded.{Decoded}
-use Rattle.target.specs.declared.Decoded.TheVariants.{Do, Refused}
 use Rattle.target.specs.declared.Registers.{Registers}
-use Rattle.target.specs.declared.Ran.{Ran}
 use Rattle.target.specs.Calls.{read_count, Calls, none, next, SameCalls}
 use Rattle.target.specs.LawsSound.{latch_blank, decoded_fits, latches_stay, cells_stay, refused_stays, Reads, decoded_counts, step_reads}
 

@@ -18,15 +18,13 @@ use Rattle.words.specs.LawsWord.{word_lt, words_long, words_each, words_of_lem}
 use Rattle.target.specs.Chip.{Chip}
 use Rattle.target.specs.Effects.{blank, word_read}
 use Rattle.target.specs.Model.{Effect, done, stops}
-use Rattle.target.specs.Step.{Target, place, load_ok, load, plain, decoded, effect, step_effect, sound_cells, sound_latches}
+use Rattle.target.specs.Step.{Decoded, Do, Refused, Target, place, load_ok, load, plain, decoded, effect, step_effect, sound_cells, sound_latches}
 use Rattle.target.specs.LawsChip.{SoundChip, Burning}
 use Rattle.target.specs.LawsStep.{latches_ok}
 use Rattle.target.specs.LawsStream.{FitsOrder}
 use Rattle.target.specs.LawsKept.{length_after, fits_after}
 use Rattle.target.specs.declared.Order.{Order}
 use Rattle.target.specs.declared.Order.TheVariants.{LoadConfiguration, LoadData, Read, Increment, ResetAddress, Begin, BulkErase, RowErase}
-use Rattle.target.specs.declared.Decoded.{Decoded}
-use Rattle.target.specs.declared.Decoded.TheVariants.{Do, Refused}
 use Rattle.target.specs.Calls.{read_count}
 
 either : {A : Type 0} (P : A → Type 0) (b : Bool) (x y : A) → P x → P y → P (pick b x y)

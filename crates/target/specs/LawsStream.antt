@@ -2,11 +2,10 @@
 use Rattle.std.specs.Prelude.{ℕ, ◌*◌, ◌/◌, ◌%◌, ◌<◌, ◌≡◌, refl, List, [], ◌∷◌, ◌++◌, length}
 use Rattle.std.proofs.Common.{arith, eq-eqb, le-leb}
 use Rattle.words.specs.Choice.{pick}
-use Rattle.target.specs.Step.{decoded, load, load_ok, plain}
+use Rattle.target.specs.Step.{Do, decoded, load, load_ok, plain}
 use Rattle.target.specs.Stream.{code_of, payload_of, step_bytes, bytes_of}
 use Rattle.target.specs.declared.Order.{Order}
 use Rattle.target.specs.declared.Order.TheVariants.{LoadConfiguration, LoadData, Read, Increment, ResetAddress, Begin, BulkErase, RowErase}
-use Rattle.target.specs.declared.Decoded.TheVariants.{Do}
 
 -- ---- orders whose words fit
 

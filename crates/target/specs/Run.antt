@@ -1,6 +1,7 @@
 -- A run of this family's model, and the call for it (13, 32, 34, then each step's own refusal).
-use Rattle.std.specs.Prelude.{ℕ, ◌%◌, ◌≡◌, List, eqb, length}
+use Rattle.std.specs.Prelude.{ℕ, ◌%◌, ◌≡◌, List, eqb, length, Result, Ok, Err}
 use Rattle.words.specs.Choice.{pick, unless}
+use Rattle.refusal.specs.Refusal.{number_of}
 use Rattle.device.specs.declared.Device.{Device}
 use Rattle.device.specs.Record.{device_ok}
 use Rattle.target.specs.Chip.{Chip, chip_of}
@@ -8,7 +9,8 @@ use Rattle.target.specs.Effects.{blank}
 use Rattle.target.specs.Model.{Model, Run, run_of}
 use Rattle.target.specs.Step.{Target, step_effect, decoded, unread, sound_cells}
 use Rattle.target.specs.declared.Registers.{Registers}
-use Rattle.target.specs.declared.Ran.{Ran}
+use Rattle.target.specs.declared.Ran as code
+use Rattle.target.specs.declared.Stopped.{Stopped}
 
 -- entry: the counter at 0 and every latch at 3FFFh
 unfoldable pub entered : Chip → Registers
@@ -39,6 +41,17 @@ model_of d = model_on (chip_of d) (run_refusal d)
 
 unfoldable pub ran : Device → (stream : List ℕ) → (allowance : ℕ) → (cells words : List ℕ) → Run Target
 ran d stream allowance cells words = run_of (model_of d) stream allowance cells words
+
+-- what a run answers: 0 or the refusal that stopped it, the steps completed, and how many words were read, 0 with a refusal
+pub record Ran : Type 0 where
+  pub number : ℕ
+  pub steps : ℕ
+  pub words : ℕ
+
+-- an answer of the code, so told
+abbrev pub ran_told : Result code.Ran Stopped → Ran
+ran_told (Ok r) = record { number = 0; steps = r.steps; words = r.words }
+ran_told (Err s) = record { number = number_of s.refusal; steps = s.steps; words = 0 }
 
 -- what the call answers: the number, the steps completed and, without refusal, how many words were read
 unfoldable pub answered : Run Target → Ran

@@ -1,9 +1,11 @@
 -- A step's code and payload, what each order does, and the call for a single step ('Steps of the target'; 13, 30, 31, 32, 33, 35).
-use Rattle.std.specs.Prelude.{ℕ, ◌+◌, ◌/◌, ◌%◌, ◌≡◌, Bool, ◌&&◌, List, ltb, leb, eqb, length, get_or, set}
+use Rattle.std.specs.Prelude.{ℕ, ◌+◌, ◌/◌, ◌%◌, ◌≡◌, Bool, ◌&&◌, List, ltb, leb, eqb, length, get_or, set, Result, Ok, Err}
 use Rattle.words.specs.Choice.{pick, unless}
 use Rattle.words.specs.Word.{erased, is_word, words_of}
 use Rattle.words.specs.Lists.{every}
 use Rattle.words.specs.Address.{successor}
+use Rattle.refusal.specs.declared.Refusal.{Refusal}
+use Rattle.refusal.specs.Refusal.{number_of}
 use Rattle.device.specs.declared.Device.{Device}
 use Rattle.device.specs.Record.{device_ok}
 use Rattle.target.specs.Chip.{Chip, chip_of}
@@ -11,11 +13,19 @@ use Rattle.target.specs.Effects.{blank, edit, row_erased, bulk_erased, begin_wri
 use Rattle.target.specs.Model.{Effect, done, stops}
 use Rattle.target.specs.declared.Order.{Order}
 use Rattle.target.specs.declared.Order.TheVariants.{LoadConfiguration, LoadData, Read, Increment, ResetAddress, Begin, BulkErase, RowErase}
-use Rattle.target.specs.declared.Decoded.{Decoded}
-use Rattle.target.specs.declared.Decoded.TheVariants.{Do, Refused}
 use Rattle.target.specs.declared.Registers.{Registers}
 
 -- ---- codes and payloads
+
+-- a step's order, or the number of its refusal
+pub data Decoded : Type 0 where
+  Do : Order → Decoded
+  Refused : ℕ → Decoded
+
+-- an answer of the code, so told
+abbrev pub decoded_told : Result Order Refusal → Decoded
+decoded_told (Ok o) = Do o
+decoded_told (Err e) = Refused (number_of e)
 
 -- a load's payload is the word times two
 unfoldable pub load_ok : ℕ → Bool

@@ -1,9 +1,11 @@
 // Registers that are carried along from step to step: lent to a step, which changes them in place.
+ghost use Rattle.refusal.specs.Refusal.{number_in};
 ghost use Rattle.target.specs.Step.{Steps};
 
 use crate::Registers;
 use crate::single::step;
 use device::Device;
+use refusal::Refusal;
 
 // One step on registers that are carried along; the same as the by-value step.
 pub fn step_on(
@@ -13,12 +15,10 @@ pub fn step_on(
     payload: u16,
     words: &mut [u16],
     cells: &mut [u16],
-) -> u8
-    ensures { Steps d registers.old code payload words.old cells.old result registers.new words.new cells.new }
+) -> Result<(), Refusal>
+    ensures { Steps d registers.old code payload words.old cells.old (number_in result) registers.new words.new cells.new }
 {
-    let a = step(d, *registers, code, payload, words, cells);
-    *registers = a.registers;
-    a.number
+    registers.step(d, code, payload, words, cells)
 }
 
 impl Registers {
@@ -30,11 +30,10 @@ impl Registers {
         payload: u16,
         words: &mut [u16],
         cells: &mut [u16],
-    ) -> u8
-        ensures { Steps d self.old code payload words.old cells.old result self.new words.new cells.new }
+    ) -> Result<(), Refusal>
+        ensures { Steps d self.old code payload words.old cells.old (number_in result) self.new words.new cells.new }
     {
-        let a = step(d, *self, code, payload, words, cells);
-        *self = a.registers;
-        a.number
+        *self = step(d, *self, code, payload, words, cells)?;
+        Ok(())
     }
 }

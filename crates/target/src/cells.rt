@@ -2,6 +2,7 @@
 ghost use Rattle.std.specs.Prelude.{◌≡◌, ◌+◌, ◌*◌, ◌%◌, ◌≤◌, length, get_or};
 ghost use Rattle.std.specs.Int.Bits.{bit_and};
 ghost use Rattle.words.specs.Word.{erased};
+ghost use Rattle.refusal.specs.Refusal.{number_in};
 ghost use Rattle.words.specs.Lists.{overlay};
 ghost use Rattle.target.specs.Chip.{chip_of};
 ghost use Rattle.target.specs.Effects.{at_erase, begin_written, burnt, edit, locked, word_read};
@@ -12,6 +13,7 @@ ghost use Rattle.target.specs.LawsHeld.{chip_at, target_of, Leaves};
 
 use crate::board::Board;
 use device::{CELLS_TAIL, Device, IDS, READING_TAIL};
+use refusal::Refusal;
 use words::{CONFIG_BASE, ERASED, WordAddress};
 
 // Where the words end at which an erase acts.
@@ -22,7 +24,7 @@ impl Board<'_> {
     fn is_protected(&self) -> bool
         ensures { result ≡ locked (chip_at self.now) self.now.cells.now }
     {
-        device::is_protected(self.device.words, self.cells)
+        device::is_protected(self.sound.device.words, self.cells)
     }
 
     // The word that Read answers: 0 for a program word while protected, and for a word that does not exist.
@@ -30,14 +32,14 @@ impl Board<'_> {
         ensures { result ≡ word_read (chip_at self.now) (place (target_of self.now)) self.now.cells.now }
     {
         let at = self.registers.counter;
-        if at.0 < self.device.words {
+        if at.0 < self.sound.device.words {
             if self.is_protected() {
                 return 0;
             }
             return self.cells[at.0 as usize];
         }
         self.cells
-            .get(cell_of(self.device, at))
+            .get(cell_of(self.sound.device, at))
             .copied()
             .unwrap_or(0)
     }
@@ -54,8 +56,8 @@ impl Board<'_> {
     pub(crate) fn erase_row(&mut self)
         ensures { Leaves (effect (chip_at self.old) RowErase (target_of self.old)) self.old 0 self.new }
     {
-        let program = self.device.words as usize;
-        let row = self.device.row as usize;
+        let program = self.sound.device.words as usize;
+        let row = self.sound.device.row as usize;
         let a = self.registers.counter.0 as usize;
         if a < program {
             if self.is_protected() {
@@ -70,26 +72,26 @@ impl Board<'_> {
     }
 
     // Bulk Erase; 33 past the words at which it acts.
-    pub(crate) fn erase_all(&mut self) -> u8
-        ensures { Leaves (effect (chip_at self.old) BulkErase (target_of self.old)) self.old result self.new }
+    pub(crate) fn erase_all(&mut self) -> Result<(), Refusal>
+        ensures { Leaves (effect (chip_at self.old) BulkErase (target_of self.old)) self.old (number_in result) self.new }
     {
         if ERASE_END <= self.registers.counter.0 {
-            return 33;
+            return Err(Refusal::BulkEraseOutOfReach);
         }
-        let program = self.device.words as usize;
+        let program = self.sound.device.words as usize;
         erase(self.cells, 0, program);
         erase(self.cells, program + 7, 2);
         if self.erases_ids() {
             erase(self.cells, program, IDS);
         }
-        0
+        Ok(())
     }
 
     // What Begin does to the cells.
     pub(crate) fn write(&mut self)
         ensures { Leaves (done (changed (edit (begin_written (chip_at self.old) (place (target_of self.old)) self.old.cells.now) (burnt (chip_at self.old) (place (target_of self.old)) self.old.registers.latches self.old.cells.now) self.old.cells.now) (target_of self.old))) self.old 0 self.new }
     {
-        let d = self.device;
+        let d = self.sound.device;
         let row = d.row as usize;
         let at = self.registers.counter;
         let a = at.0 as usize;

@@ -2,13 +2,14 @@
 #![tactic(auto, using(words::specs::LawsChoice::tests), unfolding(crate::specs::Step::decoded, crate::specs::Step::load, crate::specs::Step::load_ok, crate::specs::Step::plain, words::specs::Choice::pick))]
 
 ghost use Rattle.std.specs.Prelude.{◌≡◌};
-ghost use Rattle.target.specs.Step.{load, plain, decoded};
+ghost use Rattle.target.specs.Step.{load, plain, decoded, decoded_told};
 
-use crate::{Decoded, Order};
+use crate::Order;
+use refusal::Refusal;
 
-// The order of a code and a payload; 30 for an unknown code, 31 for a bad payload.
-pub(crate) fn decode(code: u8, payload: u16) -> Decoded
-    ensures { result ≡ decoded code payload }
+// The order of a code and a payload; refuses an unknown code, and a bad payload.
+pub(crate) fn decode(code: u8, payload: u16) -> Result<Order, Refusal>
+    ensures { decoded_told result ≡ decoded code payload }
 {
     match code {
         0x00 => with_word(payload, Order::LoadConfiguration(payload / 2)),
@@ -19,28 +20,28 @@ pub(crate) fn decode(code: u8, payload: u16) -> Decoded
         0x08 => without(payload, Order::Begin),
         0x09 => without(payload, Order::BulkErase),
         0x11 => without(payload, Order::RowErase),
-        _ => Decoded::Refused(30),
+        _ => Err(Refusal::UnknownCode),
     }
 }
 
 // A load's payload is a word times two.
-fn with_word(payload: u16, order: Order) -> Decoded
-    ensures { result ≡ load payload order }
+fn with_word(payload: u16, order: Order) -> Result<Order, Refusal>
+    ensures { decoded_told result ≡ load payload order }
 {
     if payload % 2 == 0 && payload <= 0x7ffe {
-        Decoded::Do(order)
+        Ok(order)
     } else {
-        Decoded::Refused(31)
+        Err(Refusal::BadPayload)
     }
 }
 
 // Every other payload is 0.
-fn without(payload: u16, order: Order) -> Decoded
-    ensures { result ≡ plain payload order }
+fn without(payload: u16, order: Order) -> Result<Order, Refusal>
+    ensures { decoded_told result ≡ plain payload order }
 {
     if payload == 0 {
-        Decoded::Do(order)
+        Ok(order)
     } else {
-        Decoded::Refused(31)
+        Err(Refusal::BadPayload)
     }
 }

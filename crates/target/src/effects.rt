@@ -10,16 +10,16 @@ use words::{CONFIG_BASE, WordAddress};
 impl Board<'_> {
     // The latch of the counter, the counter mod R: R is a power of two, so these are the counter's low bits.
     pub(crate) fn latch(&self) -> usize
-        ensures { (result ≡ place (target_of self.now) % self.now.device.row) × (result < 32) }
+        ensures { (result ≡ place (target_of self.now) % self.now.sound.device.row) × (result < 32) }
     {
-        (self.registers.counter.0 & (self.device.row - 1)) as usize
+        (self.registers.counter.0 & (self.sound.device.row - 1)) as usize
     }
 
     // Whether the latches that count are words.
     pub(crate) fn has_words(&self) -> bool
         ensures { result ≡ sound_latches (chip_at self.now) self.now.registers.latches }
     {
-        let row = self.device.row as usize;
+        let row = self.sound.device.row as usize;
         words::list::is_words(&self.registers.latches[..row], row)
     }
 }

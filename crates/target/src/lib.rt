@@ -7,22 +7,24 @@ mod cells;
 mod decode;
 mod effects;
 mod single;
+mod sound;
 mod trial;
 
 pub use carried::step_on;
+use refusal::Refusal;
 pub use single::step;
 pub use trial::run;
 use words::WordAddress;
 
 // The registers of a target: its program counter and its latches, of which the first R count.
-#[derive(Clone, Copy)]
+#[derive(Clone, Copy, Debug, PartialEq, Eq)]
 pub struct Registers {
     pub counter: WordAddress,
     pub latches: [u16; 32],
 }
 
 // What a step asks for.
-#[derive(Clone, Copy)]
+#[derive(Clone, Copy, Debug, PartialEq, Eq)]
 pub enum Order {
     LoadConfiguration(u16),
     LoadData(u16),
@@ -34,24 +36,16 @@ pub enum Order {
     RowErase,
 }
 
-// A step's order, or the number of its refusal.
-#[derive(Clone, Copy)]
-pub enum Decoded {
-    Do(Order),
-    Refused(u8),
-}
-
-// 0 and the registers after a step; or a refusal and the registers as they were.
-#[derive(Clone, Copy)]
-pub struct Stepped {
-    pub number: u8,
-    pub registers: Registers,
-}
-
-// What a run answers: 0 or the refusal that stopped it, the steps completed, and how many words were read, 0 with a refusal.
-#[derive(Clone, Copy)]
+// What a run that nothing stopped answers: the steps completed, and how many words were read.
+#[derive(Clone, Copy, Debug, PartialEq, Eq)]
 pub struct Ran {
-    pub number: u8,
     pub steps: usize,
     pub words: usize,
+}
+
+// The refusal that stopped a run, and the steps completed before it.
+#[derive(Clone, Copy, Debug, PartialEq, Eq)]
+pub struct Stopped {
+    pub refusal: Refusal,
+    pub steps: usize,
 }

@@ -1,5 +1,5 @@
 // One step: its refusals, and what it does.
-ghost use Rattle.std.specs.Prelude.{◌≡◌};
+ghost use Rattle.refusal.specs.Refusal.{number_in, value_in};
 ghost use Rattle.target.specs.Step.{decoded, effect, step_effect, Steps};
 ghost use Rattle.target.specs.declared.Order.TheVariants.{Read};
 ghost use Rattle.target.specs.LawsHeld.{chip_at, target_of, Leaves};
@@ -7,11 +7,13 @@ ghost use Rattle.target.specs.LawsHeld.{chip_at, target_of, Leaves};
 use crate::board::Board;
 use crate::decode::decode;
 use crate::effects::next_address;
-use crate::{Decoded, Order, Registers, Stepped};
-use device::{CELLS_TAIL, Device};
+use crate::sound::judge;
+use crate::{Order, Registers};
+use device::Device;
+use refusal::Refusal;
 use words::{CONFIG_BASE, ERASED, WordAddress};
 
-// One step on a target: 13, 32, and then the step's own refusal. A refused step writes nothing and leaves the registers.
+// One step on a target, which answers the registers afterwards. A refused step writes nothing.
 pub fn step(
     d: Device,
     r: Registers,
@@ -19,97 +21,78 @@ pub fn step(
     payload: u16,
     words: &mut [u16],
     cells: &mut [u16],
-) -> Stepped
-    ensures { Steps d r code payload words.old cells.old result.number result.registers words.new cells.new }
+) -> Result<Registers, Refusal>
+    ensures { Steps d r code payload words.old cells.old (number_in result) (value_in r result) words.new cells.new }
 {
-    if device::judge(d) != 0 {
-        return Stepped {
-            number: 13,
-            registers: r,
-        };
-    }
-    if !words::list::is_words(cells, (d.words as usize) + CELLS_TAIL) {
-        return Stepped {
-            number: 32,
-            registers: r,
-        };
-    }
+    let sound = judge(d, cells)?;
     let mut board = Board {
-        device: d,
+        sound,
         registers: r,
         read: 0,
         words,
         cells,
     };
     if !board.has_words() {
-        return Stepped {
-            number: 32,
-            registers: r,
-        };
+        return Err(Refusal::Cells);
     }
-    let number = board.perform(code, payload);
-    Stepped {
-        number,
-        registers: board.registers,
-    }
+    board.perform(code, payload)?;
+    Ok(board.registers)
 }
 
 impl Board<'_> {
     // A step on a board that has been judged. A refused step leaves the board as it is.
-    pub(crate) fn perform(&mut self, code: u8, payload: u16) -> u8
-        ensures { Leaves (step_effect (chip_at self.old) (decoded code payload) (target_of self.old)) self.old result self.new }
+    pub(crate) fn perform(&mut self, code: u8, payload: u16) -> Result<(), Refusal>
+        ensures { Leaves (step_effect (chip_at self.old) (decoded code payload) (target_of self.old)) self.old (number_in result) self.new }
     {
-        match decode(code, payload) {
-            Decoded::Refused(number) => number,
-            Decoded::Do(order) => self.obey(order),
-        }
+        let order = decode(code, payload)?;
+        self.obey(order)
     }
 
-    fn obey(&mut self, order: Order) -> u8
-        ensures { Leaves (effect (chip_at self.old) order (target_of self.old)) self.old result self.new }
+    fn obey(&mut self, order: Order) -> Result<(), Refusal>
+        ensures { Leaves (effect (chip_at self.old) order (target_of self.old)) self.old (number_in result) self.new }
     {
         match order {
             Order::LoadConfiguration(w) => {
                 self.registers.latches[0] = w;
                 self.registers.counter = WordAddress(CONFIG_BASE);
-                0
+                Ok(())
             }
             Order::LoadData(w) => {
                 let latch = self.latch();
                 self.registers.latches[latch] = w;
-                0
+                Ok(())
             }
             Order::Read => self.fetch(),
             Order::Increment => {
                 self.registers.counter = next_address(self.registers.counter);
-                0
+                Ok(())
             }
             Order::ResetAddress => {
                 self.registers.counter = WordAddress(0);
-                0
+                Ok(())
             }
             Order::Begin => {
                 self.write();
                 self.registers.latches = [ERASED; 32];
-                0
+                Ok(())
             }
             Order::BulkErase => self.erase_all(),
             Order::RowErase => {
                 self.erase_row();
-                0
+                Ok(())
             }
         }
     }
 
-    // The word read goes to the next place of the buffer; 35 where there is none.
-    fn fetch(&mut self) -> u8
-        ensures { Leaves (effect (chip_at self.old) Read (target_of self.old)) self.old result self.new }
+    // The word read goes to the next place of the buffer, where there is one.
+    fn fetch(&mut self) -> Result<(), Refusal>
+        ensures { Leaves (effect (chip_at self.old) Read (target_of self.old)) self.old (number_in result) self.new }
     {
         if self.read == self.words.len() {
-            return 35;
+            return Err(Refusal::NoRoomForWord);
         }
         self.words[self.read] = self.word();
         self.read += 1;
-        0
+        Ok(())
     }
 }

@@ -1,32 +1,37 @@
 // A trial run: entry, and then as many steps of a stream as it may take.
-ghost use Rattle.std.specs.Prelude.{◌≡◌, ◌+◌, ◌*◌, ◌≤◌, ◌<◌, length, get_or};
-ghost use Rattle.target.specs.Run.{run_refusal, Runs};
+ghost use Rattle.std.specs.Prelude.{◌≡◌, ◌+◌, ◌*◌, ◌≤◌, ◌<◌, length, get_or, IfOk};
+ghost use Rattle.refusal.specs.Refusal.{number_in};
+ghost use Rattle.target.specs.Run.{ran_told, run_refusal, Runs};
 ghost use Rattle.target.specs.LawsRun.{Goes};
 ghost use Rattle.target.specs.LawsHeld.{chip_at, target_of};
 
 use crate::board::Board;
-use crate::{Ran, Registers};
-use device::{CELLS_TAIL, Device};
+use crate::sound::judge;
+use crate::{Ran, Registers, Stopped};
+use device::{Device, Sound};
+use refusal::Refusal;
 use words::{ERASED, WordAddress};
 
 // Runs a stream on a target: 13, 32 and 34 before the first step, and then the refusal of the step that stops it.
-pub fn run(d: Device, cells: &mut [u16], stream: &[u8], allowance: usize, words: &mut [u16]) -> Ran
-    ensures { Runs d stream.now allowance words.old cells.old result words.new cells.new }
+pub fn run(
+    d: Device,
+    cells: &mut [u16],
+    stream: &[u8],
+    allowance: usize,
+    words: &mut [u16],
+) -> Result<Ran, Stopped>
+    ensures { Runs d stream.now allowance words.old cells.old (ran_told result) words.new cells.new }
 {
-    let number = refusal_before(d, cells, stream);
-    if number != 0 {
-        return Ran {
-            number,
-            steps: 0,
-            words: 0,
-        };
-    }
+    let sound = match before(d, cells, stream) {
+        Ok(sound) => sound,
+        Err(refusal) => return Err(Stopped { refusal, steps: 0 }),
+    };
     let registers = Registers {
         counter: WordAddress(0),
         latches: [ERASED; 32],
     };
     let mut board = Board {
-        device: d,
+        sound,
         registers,
         read: 0,
         words,
@@ -36,45 +41,38 @@ pub fn run(d: Device, cells: &mut [u16], stream: &[u8], allowance: usize, words:
 }
 
 // What stops a run before its first step.
-fn refusal_before(d: Device, cells: &[u16], stream: &[u8]) -> u8
-    ensures { result ≡ run_refusal d stream.now cells.now }
+fn before(d: Device, cells: &[u16], stream: &[u8]) -> Result<Sound, Refusal>
+    ensures number { number_in result ≡ run_refusal d stream.now cells.now }
+    ensures same { IfOk result (λ s. s.device ≡ d) }
 {
-    if device::judge(d) != 0 {
-        return 13;
-    }
-    if !words::list::is_words(cells, (d.words as usize) + CELLS_TAIL) {
-        return 32;
-    }
+    let sound = judge(d, cells)?;
     if stream.len() % 3 != 0 {
-        return 34;
+        return Err(Refusal::BrokenStream);
     }
-    0
+    Ok(sound)
 }
 
 impl Board<'_> {
     // So many steps of a stream, in turn.
-    fn go(&mut self, stream: &[u8], steps: usize) -> Ran
+    fn go(&mut self, stream: &[u8], steps: usize) -> Result<Ran, Stopped>
         requires { 3 * steps ≤ length stream.now }
-        ensures goes { Goes (chip_at self.old) (run_refusal self.old.device) stream.now steps (target_of self.old) result (target_of self.new) }
+        ensures goes { Goes (chip_at self.old) (run_refusal self.old.sound.device) stream.now steps (target_of self.old) (ran_told result) (target_of self.new) }
         ensures same_words { self.new.words.ghost_name ≡ self.old.words.ghost_name }
         ensures same_cells { self.new.cells.ghost_name ≡ self.old.cells.ghost_name }
     {
         for done in 0..steps {
             let first = 3 * done;
-            let number = self.perform(stream[first], payload_at(stream, first));
-            if number != 0 {
-                return Ran {
-                    number,
+            if let Err(refusal) = self.perform(stream[first], payload_at(stream, first)) {
+                return Err(Stopped {
+                    refusal,
                     steps: done,
-                    words: 0,
-                };
+                });
             }
         }
-        Ran {
-            number: 0,
+        Ok(Ran {
             steps,
             words: self.read,
-        }
+        })
     }
 }
 
@@ -82,5 +80,5 @@ fn payload_at(stream: &[u8], at: usize) -> u16
     requires { at + 2 < length stream.now }
     ensures { result ≡ get_or stream.now (at + 1) 0 + 256 * get_or stream.now (at + 2) 0 }
 {
-    (stream[at + 1] as u16) + 256 * (stream[at + 2] as u16)
+    u16::from(stream[at + 1]) + 256 * u16::from(stream[at + 2])
 }

@@ -1,5 +1,6 @@
 -- After each step the run stands where the definition says.
 use Rattle.std.proofs.Common.{ℕ, ◌+◌, ◌*◌, ◌≡◌, refl, ◌∙◌, List, get_or, arith}
+use Rattle.refusal.specs.LawsRefusal.{number_of_positive}
 use Rattle.device.specs.declared.Device.{Device}
 use Rattle.target.specs.Chip.{chip_of}
 use Rattle.target.specs.Model.{code_at, payload_at}
@@ -15,17 +16,17 @@ step_of d e p stream k payload q t = rw (p, step_is stream k payload q)
 pub loop-done-init : goal.loop-done-init
 loop-done-init c = record { going = going_none _ _ _ _; device = refl; words = refl; cells = refl }
 
-pub returns-then-number-ne0-clause-goes : goal.returns-then-number-ne0-clause-goes
-returns-then-number-ne0-clause-goes c = going_stops _ _ _ _ _ _ c.loop-done.invariant.going _ _
-    (c.perform-number.ensures.whole ∙ step_of _ _ c.loop-done.invariant.device _ _ _ c.payload_at.ensures _) c.if-number-ne0.true _ c.loop-done-test.true
+pub returns-in-Err-clause-goes : goal.returns-in-Err-clause-goes
+returns-in-Err-clause-goes c = going_stops _ _ _ _ _ _ c.loop-done.invariant.going _ _
+    (c.in-Err.ensures.whole ∙ step_of _ _ c.loop-done.invariant.device _ _ _ c.payload_at.ensures _) (λ z. omega (arith, number_of_positive c.in-Err.refusal)) _ c.loop-done-test.true
 
 pub loop-done-preserved : goal.loop-done-preserved
 loop-done-preserved c = record {
   going = going_more _ _ _ _ _ _ c.loop-done.invariant.going _ _
-      (c.perform-number.ensures.whole ∙ step_of _ _ c.loop-done.invariant.device _ _ _ c.payload_at.ensures _) c.if-number-ne0.false;
-  device = c.perform-number.ensures.device ∙ c.loop-done.invariant.device;
-  words = c.perform-number.ensures.words ∙ c.loop-done.invariant.words;
-  cells = c.perform-number.ensures.cells ∙ c.loop-done.invariant.cells;
+      (c.in_default.ensures.whole ∙ step_of _ _ c.loop-done.invariant.device _ _ _ c.payload_at.ensures _) refl;
+  device = c.perform.ensures.device ∙ c.loop-done.invariant.device;
+  words = c.perform.ensures.words ∙ c.loop-done.invariant.words;
+  cells = c.perform.ensures.cells ∙ c.loop-done.invariant.cells;
 }
 
 pub returns-clause-goes : goal.returns-clause-goes
