@@ -1,10 +1,14 @@
 -- Laws of one line: its end, and the lines that are left after it.
-use Rattle.std.specs.Prelude.{ℕ, suc, ◌+◌, ◌-◌, ◌≤◌, ◌<◌, ◌≡◌, ◌⊎◌, Bool, true, List, [], ◌∷◌, eqb, get_or, drop}
+use Rattle.std.specs.Prelude.{ℕ, suc, ◌+◌, ◌-◌, ◌≤◌, ◌<◌, ◌≡◌, ◌⊎◌, Bool, true, List, [], ◌∷◌, eqb, get_or, drop, Option, Some, None, MatchOption}
 use Rattle.std.proofs.Math.Decide.{dec_lt}
 use native.Mathlib.Omega.{arith}
 use Rattle.std.proofs.Math.Path.{refl, sym, ap}
-use Rattle.std.proofs.Common.{◌∙◌, inl, inr, take_all, take-take, eq-eqb, ne_eqb}
+use Rattle.std.proofs.Common.{◌∙◌, inl, inr, take_all, take-take, add-zero, get_or-drop, drop-cons, drop_of_length-le, eq-eqb, ne_eqb}
 use Rattle.std.proofs.Math.Bool.{false}
+use Rattle.std.specs.Borrow.{Bor}
+use Rattle.std.specs.Option.{unwrap_or}
+use lib.Pointwise.{pointwise}
+use Rattle.std.specs.Cmp.Lexicographic.{same_text, other_text}
 use Rattle.std.proofs.Math.ListN.{length, take, length-drop}
 use Rattle.std.proofs.Math.Seq.{take-length, length-take-le}
 use Rattle.marks.specs.Marks.{index_of, index_after, slice}
@@ -46,6 +50,34 @@ ended_other [] n e = absurd (n refl)
 ended_other (c ∷ l) n e =
     let k : suc (length l) - 1 ≡ length l = omega arith in
     record { line = take-length (c ∷ l) ∙ last_other c l (rw k at e); within = omega arith }
+
+module _ (piece : List ℕ) where
+  cr_cut : (n : ℕ) → pointwise eqb (drop (length piece - 1) piece) (cr ∷ []) ≡ true → n + 1 ≡ length piece → Ended piece n
+  cr_cut n e w =
+      let last : get_or piece (length piece - 1) 0 ≡ cr = rw (get_or-drop, add-zero) at (ap (λ l. get_or l 0 0) (same_text (drop (length piece - 1) piece) (cr ∷ []) (sym e))) in
+      let m : n ≡ length piece - 1 = omega arith in
+      rw m (ended_cr piece (λ z. omega arith) last)
+
+  no_cr : pointwise eqb (drop (length piece - 1) piece) (cr ∷ []) ≡ false → Ended piece (length piece)
+  no_cr e = by (dec_lt 0 (length piece))
+    where
+      ends : 0 < length piece → get_or piece (length piece - 1) 0 ≡ cr → drop (length piece - 1) piece ≡ cr ∷ []
+      ends h q =
+          let low : length piece - 1 < length piece = omega arith in
+          let high : length piece ≤ suc (length piece - 1) = omega arith in
+          drop-cons piece (length piece - 1) 0 low ∙ rw (q, drop_of_length-le piece high)
+
+      by : Dec (0 < length piece) → Ended piece (length piece)
+      by (yes h) = ended_other piece (λ z. omega arith) (λ q. other_text (drop (length piece - 1) piece) (cr ∷ []) (sym e) (ends h q))
+      by (no h) = let z : length piece ≡ 0 = omega arith in rw z (ended_empty piece z)
+
+-- a suffix CR taken off, if it is there
+pub stripped : (piece r : Bor (List ℕ)) (o : Option (Bor (List ℕ))) → r ≡ unwrap_or o piece
+    → MatchOption o (pointwise eqb (drop (length piece.now - 1) piece.now) (cr ∷ []) ≡ false)
+    (λ x. (pointwise eqb (drop (length piece.now - 1) piece.now) (cr ∷ []) ≡ true) × (x.now ≡ take (length piece.now - 1) piece.now) × (length x.now + 1 ≡ length piece.now))
+    → Ended piece.now (length r.now)
+stripped piece r None e h = rw e (no_cr piece.now h)
+stripped piece r (Some x) e h = rw e (cr_cut piece.now (length x.now) h.0 h.2)
 
 -- a line is no longer than its piece
 pub without_most : (l : List ℕ) → length (without_cr l) ≤ length l

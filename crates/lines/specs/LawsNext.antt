@@ -1,7 +1,8 @@
 -- Laws of taking lines: one for each way through the core, of a reader, and what a line that was taken tells.
-use Rattle.std.specs.Prelude.{ℕ, ◌+◌, ◌-◌, ◌≤◌, ◌<◌, ◌≡◌, List, take, drop}
+use Rattle.std.specs.Prelude.{ℕ, ◌+◌, ◌-◌, ◌≤◌, ◌<◌, ◌≡◌, min, List, take, drop}
 use Rattle.std.proofs.Common.{arith, ap, ◌∙◌, lt-ltb, le-ltb}
 use Rattle.std.proofs.Math.Path.{sym}
+use Rattle.std.proofs.Math.Decide.{dec_lt}
 use Rattle.std.proofs.Math.ListN.{length}
 use Rattle.words.specs.LawsChoice.{pick_true, pick_false}
 use Rattle.lines.specs.Lines.{line_at, end_of, most_line, number_after, next_line, line_of, moved_on, Takes}
@@ -18,6 +19,14 @@ number_more line h = sym (pick_true _ _ _ (lt-ltb line most_line h))
 pub number_stays : (line : ℕ) → most_line ≤ line → line ≡ number_after line
 unfolding number_after
 number_stays line h = sym (pick_false _ _ _ (le-ltb line most_line h))
+
+-- one more, up to the largest
+pub number_told : (line r : ℕ) → line ≤ most_line → r ≡ min (line + 1) most_line → r ≡ number_after line
+number_told line r fits e = by (dec_lt line most_line)
+  where
+    by : Dec (line < most_line) → r ≡ number_after line
+    by (yes h) = rw (← number_more line h) (omega arith)
+    by (no h) = rw (← number_stays line (omega arith)) (omega arith)
 
 -- the search ends at or after its start
 pub end_after : (text : List ℕ) (at end : ℕ) → at < length text → end ≡ end_of text at → at ≤ end

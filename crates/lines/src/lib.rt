@@ -4,11 +4,9 @@
 mod scan;
 
 ghost use Rattle.std.specs.Prelude.{◌≡◌};
-ghost use Rattle.lines.specs.Lines.{number_after, next_line, at_start, Takes};
+ghost use Rattle.lines.specs.Lines.{next_line, at_start, Takes};
 
 use scan::{line_end, line_stop};
-
-const MOST_LINE: u32 = 0xffffffff;
 
 // A reader: the text, where its next line begins, and the number of the line taken last (0 before the first).
 #[derive(Clone, Copy)]
@@ -19,7 +17,7 @@ pub struct Lines<'a> {
 }
 
 // Where a line begins and ends, without the CR that belongs to its end; where the next one begins; and the line's number.
-#[derive(Clone, Copy)]
+#[derive(Clone, Copy, Debug, PartialEq, Eq)]
 pub struct NextLine {
     pub start: usize,
     pub stop: usize,
@@ -31,66 +29,56 @@ pub struct NextLine {
 pub fn next_line(text: &[u8], at: usize, line: u32) -> NextLine
     ensures { result ≡ next_line text.now at line }
 {
-    if at < text.len() {
-        let end = line_stop(text, at);
-        let length = line_end(&text[at..end]);
+    if text.len() <= at {
         return NextLine {
-            start: at,
-            stop: at + length,
-            at: end + 1,
-            line: number_after(line),
+            start: text.len(),
+            stop: text.len(),
+            at,
+            line,
         };
     }
+    let end = line_stop(text, at);
     NextLine {
-        start: text.len(),
-        stop: text.len(),
-        at,
-        line,
+        start: at,
+        stop: at + line_end(&text[at..end]),
+        at: end + 1,
+        line: line.saturating_add(1),
     }
-}
-
-// The number of the line after this one.
-fn number_after(line: u32) -> u32
-    ensures { result ≡ number_after line }
-{
-    if line < MOST_LINE {
-        return line + 1;
-    }
-    line
-}
-
-// A reader before the first line of a text.
-pub fn begin<'a>(text: &'a [u8]) -> Lines<'a>
-    ensures { result ≡ at_start text.entry }
-{
-    Lines {
-        text,
-        at: 0,
-        line: 0,
-    }
-}
-
-// Takes the next line: the reader moves past it.
-pub fn take<'s, 'a>(lines: &'s mut Lines<'a>) -> NextLine
-    ensures { Takes lines.old result lines.new }
-{
-    let next = next_line(lines.text, lines.at, lines.line);
-    lines.at = next.at;
-    lines.line = next.line;
-    next
-}
-
-// The number of the line taken last, from 1; 0 before the first.
-pub fn number<'a>(lines: Lines<'a>) -> u32
-    ensures { result ≡ lines.entry.line }
-{
-    lines.line
 }
 
 // The line that begins at a place of a text, taken by a reader that stands there.
 pub fn line_from(text: &[u8], at: usize, line: u32) -> NextLine
     ensures { result ≡ next_line text.now at line }
 {
-    let mut lines = Lines { text, at, line };
-    take(&mut lines)
+    Lines { text, at, line }.take()
+}
+
+impl<'a> Lines<'a> {
+    // A reader before the first line of a text.
+    pub fn new(text: &'a [u8]) -> Lines<'a>
+        ensures { result ≡ at_start text.entry }
+    {
+        Lines {
+            text,
+            at: 0,
+            line: 0,
+        }
+    }
+
+    // Takes the next line: the reader moves past it.
+    pub fn take(&mut self) -> NextLine
+        ensures { Takes self.old result self.new }
+    {
+        let next = next_line(self.text, self.at, self.line);
+        self.at = next.at;
+        self.line = next.line;
+        next
+    }
+
+    // The number of the line taken last, from 1; 0 before the first.
+    pub fn number(&self) -> u32
+        ensures { result ≡ self.now.line }
+    {
+        self.line
+    }
 }
