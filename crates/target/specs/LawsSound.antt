@@ -15,14 +15,17 @@ use Rattle.words.specs.Word.{erased, is_word}
 use Rattle.words.specs.LawsChoice.{pick_false, second_holds}
 use Rattle.words.specs.LawsLists.{every_at}
 use Rattle.words.specs.LawsWord.{word_lt, words_long, words_each, words_of_lem}
-use Rattle.target.specs.Chip.{Chip}
+use Rattle.device.specs.declared.Device.{Device}
+use Rattle.device.specs.Record.{device_ok}
+use Rattle.target.specs.Chip.{Chip, chip_of}
 use Rattle.target.specs.Effects.{blank, word_read}
 use Rattle.target.specs.Model.{Effect, done, stops}
-use Rattle.target.specs.Step.{Decoded, Do, Refused, Target, place, load_ok, load, plain, decoded, effect, step_effect, sound_cells, sound_latches}
+use Rattle.target.specs.Step.{Decoded, Do, Refused, Target, place, load_ok, load, plain, decoded, effect, step_effect, sound_cells, sound_latches, stepped, unread, Steps}
 use Rattle.target.specs.LawsChip.{SoundChip, Burning}
-use Rattle.target.specs.LawsStep.{latches_ok}
+use Rattle.target.specs.LawsStep.{latches_ok, target}
 use Rattle.target.specs.LawsStream.{FitsOrder}
 use Rattle.target.specs.LawsKept.{length_after, fits_after}
+use Rattle.target.specs.declared.Registers.{Registers}
 use Rattle.target.specs.declared.Order.{Order}
 use Rattle.target.specs.declared.Order.TheVariants.{LoadConfiguration, LoadData, Read, Increment, ResetAddress, Begin, BulkErase, RowErase}
 use Rattle.target.specs.Calls.{read_count}
@@ -124,6 +127,27 @@ module _ (chip : Chip) (t : Target) where
   unfolding step_effect
   refused_stays (Do o) h = order_refused o h
   refused_stays (Refused n) h = refl
+
+-- a call that is refused leaves the registers
+module _ (d : Device) (code payload : ℕ) (t : Target) where
+  call_stays : ((stepped d code payload t).number ≡ 0 → ⊥) → (stepped d code payload t).target ≡ t
+  unfolding stepped pick
+  call_stays = by (device_ok d) (sound_cells (chip_of d) t.cells) (sound_latches (chip_of d) t.registers.latches)
+    where
+      by : (a b c : Bool) → ((pick a (pick b (pick c (step_effect (chip_of d) (decoded code payload) t) (stops 32 t)) (stops 32 t)) (stops 13 t)).number ≡ 0 → ⊥)
+          → (pick a (pick b (pick c (step_effect (chip_of d) (decoded code payload) t) (stops 32 t)) (stops 32 t)) (stops 13 t)).target ≡ t
+      by true true true h = ap (λ e. e.target) (refused_stays (chip_of d) t (decoded code payload) h)
+      by true true false h = refl
+      by true false c h = refl
+      by false b c h = refl
+
+module _ {d : Device} {r : Registers} {code payload : ℕ} {words cells : List ℕ} {n : ℕ} {r' : Registers} {words' cells' : List ℕ} (s : Steps d r code payload words cells n r' words' cells') where
+  pub steps_stay : 0 < n → r' ≡ r
+  unfolding unread
+  steps_stay h = s.registers ∙ ap (λ t. t.registers) (call_stays d code payload (target r 0 words cells) (λ z. let e : n ≡ 0 = s.answers ∙ z in omega arith))
+
+  pub steps_back : 0 < n → Steps d r code payload words cells n r words' cells'
+  steps_back h = record { answers = s.answers; registers = sym (steps_stay h) ∙ s.registers; words_read = s.words_read; cells_left = s.cells_left }
 
 -- ---- the words that a step reads
 
