@@ -3,13 +3,15 @@
 
 mod text;
 
+ghost use Rattle.refusal.specs.Refusal.{number_in, value_in};
 ghost use Rattle.target.specs.Step.{Steps};
 
 use device::Device;
-use target::{Registers, Stepped};
+use refusal::Refusal;
+use target::Registers;
 pub use text::{first_number, third_line};
 
-// One step by `target::step_on`: the registers are lent to it, and come back with its number.
+// One step by `target::step_on`: the registers are lent to it, and come back.
 pub fn step_on(
     d: Device,
     r: Registers,
@@ -17,15 +19,15 @@ pub fn step_on(
     payload: u16,
     words: &mut [u16],
     cells: &mut [u16],
-) -> Stepped
-    ensures { Steps d r code payload words.old cells.old result.number result.registers words.new cells.new }
+) -> Result<Registers, Refusal>
+    ensures { Steps d r code payload words.old cells.old (number_in result) (value_in r result) words.new cells.new }
 {
     let mut registers = r;
-    let number = target::step_on(&mut registers, d, code, payload, words, cells);
-    Stepped { number, registers }
+    target::step_on(&mut registers, d, code, payload, words, cells)?;
+    Ok(registers)
 }
 
-// The same by the method.
+// The same by the method. The two stay apart: each is a request of its own (`step_on` and `step_method` of docs/ANSWER.md).
 pub fn step_method(
     d: Device,
     r: Registers,
@@ -33,10 +35,10 @@ pub fn step_method(
     payload: u16,
     words: &mut [u16],
     cells: &mut [u16],
-) -> Stepped
-    ensures { (Steps d r code payload words.old cells.old result.number result.registers words.new cells.new) }
+) -> Result<Registers, Refusal>
+    ensures { (Steps d r code payload words.old cells.old (number_in result) (value_in r result) words.new cells.new) }
 {
     let mut registers = r;
-    let number = registers.step(d, code, payload, words, cells);
-    Stepped { number, registers }
+    registers.step(d, code, payload, words, cells)?;
+    Ok(registers)
 }
