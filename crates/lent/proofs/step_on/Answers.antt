@@ -1,5 +1,4 @@
 -- Where the step is refused the registers come back as they were.
-use Rattle.std.proofs.Common.{sym}
 use Rattle.std.proofs.lemmas.Result.{err_from_is_err_and}
 use Rattle.refusal.specs.LawsRefusal.{number_of_positive}
 use Rattle.target.specs.LawsSound.{steps_back}

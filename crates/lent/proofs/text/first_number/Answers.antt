@@ -11,4 +11,4 @@ unfolding at_start line_of moved_on
 first_is s h₀ h₁ r e t = ap (λ l. l.line) (t.reader ∙ ap moved_on e)
 
 pub returns : goal.returns
-returns c = c.number.ensures ∙ first_is _ _ _ _ c.begin-lines.ensures c.take.ensures
+returns c = c.number.ensures ∙ first_is _ _ _ _ c.new-lines.ensures c.take.ensures

@@ -12,4 +12,4 @@ unfolding at_start line_of moved_on line_taken
 third_is s h₀ h₁ h₂ h₃ r₁ r₂ r₃ e t₁ t₂ t₃ = t₃.answer ∙ ap line_of (t₂.reader ∙ ap moved_on (t₁.reader ∙ ap moved_on e))
 
 pub returns : goal.returns
-returns c = third_is _ _ _ _ _ _ _ _ c.begin-lines.ensures c.take.ensures c.take-2.ensures c.take-3.ensures
+returns c = third_is _ _ _ _ _ _ _ _ c.new-lines.ensures c.take.ensures c.take-2.ensures c.take-3.ensures
