@@ -25,22 +25,8 @@ use Rattle.listings.specs.LawsPlans.{plan_number, known_to}
 
 -- ---- one word
 
-unfoldable pub left_word : (fresh : Bool) → Device → (image reading : List ℕ) → ℕ → ℕ
-left_word fresh d image reading i = pick (programmable d.words i) (wanted d image (known_to fresh reading) i) (get_or reading i 0)
-
-module _ (fresh : Bool) (d : Device) (image reading : List ℕ) (i : ℕ) (b : Bool) (e : b ≡ programmable d.words i) where
-  pub left_other : b ≡ false → get_or reading i 0 ≡ left_word fresh d image reading i
-  unfolding left_word
-  left_other f = sym (pick_false (programmable d.words i) _ _ (sym e ∙ f))
-
-  module _ (t : b ≡ true) (word : ℕ) where
-    pub left_fresh : fresh ≡ true → word ≡ wanted d image [] i → word ≡ left_word fresh d image reading i
-    unfolding left_word known_to
-    left_fresh f w = w ∙ (ap (λ l. wanted d image l i) (sym (pick_true fresh [] reading f)) ∙ sym (pick_true (programmable d.words i) _ _ (sym e ∙ t)))
-
-    pub left_update : fresh ≡ false → word ≡ wanted d image reading i → word ≡ left_word fresh d image reading i
-    unfolding left_word known_to
-    left_update f w = w ∙ (ap (λ l. wanted d image l i) (sym (pick_false fresh [] reading f)) ∙ sym (pick_true (programmable d.words i) _ _ (sym e ∙ t)))
+unfoldable pub left_word : Device → (image known reading : List ℕ) → ℕ → ℕ
+left_word d image known reading i = pick (programmable d.words i) (wanted d image known i) (get_or reading i 0)
 
 -- ---- word by word
 
@@ -48,14 +34,14 @@ module _ (fresh : Bool) (d : Device) (image reading : List ℕ) (i : ℕ) (b : B
 pub fill_more : (f : ℕ → ℕ) (l m : List ℕ) (i v : ℕ) → m ≡ overlay 0 i f l → v ≡ f i → set m i v ≡ overlay 0 (i + 1) f l
 fill_more f l m i v e w = ap (λ k. set m k v) (sym (zero-add i)) ∙ overlay_more 0 i f l m v e (w ∙ ap f (sym (zero-add i)))
 
-pub fill_done : (fresh : Bool) (d : Device) (image reading l m : List ℕ) (i : ℕ) → length l ≡ length reading → length l ≤ i → m ≡ overlay 0 i (left_word fresh d image reading) l
-    → m ≡ programmed d image (known_to fresh reading) reading
+pub fill_done : (d : Device) (image known reading l m : List ℕ) (i : ℕ) → length l ≡ length reading → length l ≤ i → m ≡ overlay 0 i (left_word d image known reading) l
+    → m ≡ programmed d image known reading
 unfolding overlay left_word programmed
-fill_done fresh d image reading l m i long h e =
+fill_done d image known reading l m i long h e =
     e
-    ∙ (build_ext (length l) _ (λ k. pick (programmable d.words k) (wanted d image (known_to fresh reading) k) (get_or reading k 0))
+    ∙ (build_ext (length l) _ (λ k. pick (programmable d.words k) (wanted d image known k) (get_or reading k 0))
     (λ k p. pick_true (in_range 0 i k) _ _ (in_range_lem 0 i k (omega arith) (rw zero-add (omega arith))))
-    ∙ ap (λ n. build n (λ k. pick (programmable d.words k) (wanted d image (known_to fresh reading) k) (get_or reading k 0))) long)
+    ∙ ap (λ n. build n (λ k. pick (programmable d.words k) (wanted d image known k) (get_or reading k 0))) long)
 
 -- ---- what a planner that does not refuse is to leave is a reading
 

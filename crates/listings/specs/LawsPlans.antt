@@ -31,9 +31,21 @@ use Rattle.board.specs.LawsOpen.{served_sound, served_most}
 use Rattle.listings.specs.Streams.{hex_of, plan_text, update_text, fresh_text}
 use Rattle.listings.specs.Wanteds.{left_text, wanted_text, wanted_fresh_text}
 use Rattle.listings.specs.LawsStreams.{most_stream}
+use Rattle.listings.specs.declared.plans.Planner.{Planner}
+use Rattle.listings.specs.declared.plans.Planner.TheVariants.{Update, Fresh}
+use Rattle.listings.specs.declared.plans.Printed.{Printed}
+use Rattle.listings.specs.declared.plans.Printed.TheVariants.{Stream, Sheet}
 use Rattle.board.specs.LawsBoard.{Board, board_told, board_text}
 
 -- ---- either planner
+
+abbrev pub is_fresh : Planner → Bool
+is_fresh Update = false
+is_fresh Fresh = true
+
+abbrev pub is_sheet : Printed → Bool
+is_sheet Stream = false
+is_sheet Sheet = true
 
 -- its refusal, its steps, and what it knows of the board
 unfoldable pub plan_number : (fresh : Bool) → Device → (image reading : List ℕ) → ℕ

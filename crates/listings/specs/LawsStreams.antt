@@ -1,6 +1,6 @@
 -- Laws of a printed stream: a step's line, and the lines one after another.
-use Rattle.std.specs.Prelude.{ℕ, suc, ◌+◌, ◌*◌, ◌≤◌, ◌<◌, ◌≡◌, refl, List, [], ◌∷◌, ◌++◌, length, get_or, set, drop}
-use Rattle.std.proofs.Common.{zero-add, arith, sym, ap, ◌∙◌, length-append, length-drop, drop-cons}
+use Rattle.std.specs.Prelude.{ℕ, ◌+◌, ◌*◌, ◌<◌, ◌≡◌, refl, List, [], ◌∷◌, ◌++◌, length, get_or, set}
+use Rattle.std.proofs.Common.{zero-add, arith, sym, ap, ◌∙◌, length-append}
 use Rattle.std.proofs.lemmas.List.Edits.{sets}
 use Rattle.std.proofs.Math.Seq.{length-sets}
 use Rattle.numerals.specs.Text.{tab, lf}
@@ -38,20 +38,13 @@ length_step_text code low high = refl
 -- ---- the lines one after another
 
 -- a whole step more
-stream_cons : (c l h : ℕ) (s : List ℕ) → stream_text (c ∷ l ∷ h ∷ s) ≡ step_text c l h ++ stream_text s
+stream_more : (step rest : List ℕ) → length step ≡ 3 → stream_text (step ++ rest) ≡ step_text (get_or step 0 0) (get_or step 1 0) (get_or step 2 0) ++ stream_text rest
 unfolding stream_text step_text byte_text
-stream_cons c l h s = refl
-
-stream_more : (s : List ℕ) (i : ℕ) → i + 3 ≤ length s → stream_text (drop i s) ≡ step_text (get_or s i 0) (get_or s (i + 1) 0) (get_or s (i + 2) 0) ++ stream_text (drop (i + 3) s)
-stream_more s i h =
-    let one : suc i ≡ i + 1 = omega arith in
-    let two : suc (i + 1) ≡ i + 2 = omega arith in
-    let three : suc (i + 2) ≡ i + 3 = omega arith in
-    ap stream_text
-    (drop-cons s i 0 (omega arith)
-    ∙ ap (λ x. get_or s i 0 ∷ x) (ap (λ n. drop n s) one ∙ (drop-cons s (i + 1) 0 (omega arith)
-    ∙ ap (λ x. get_or s (i + 1) 0 ∷ x) (ap (λ n. drop n s) two ∙ (drop-cons s (i + 2) 0 (omega arith) ∙ ap (λ n. get_or s (i + 2) 0 ∷ drop n s) three)))))
-    ∙ stream_cons (get_or s i 0) (get_or s (i + 1) 0) (get_or s (i + 2) 0) (drop (i + 3) s)
+stream_more [] rest e = absurd (omega arith)
+stream_more (c ∷ []) rest e = absurd (omega arith)
+stream_more (c ∷ l ∷ []) rest e = absurd (omega arith)
+stream_more (c ∷ l ∷ h ∷ []) rest e = refl
+stream_more (c ∷ l ∷ h ∷ x ∷ s) rest e = absurd (omega arith)
 
 -- less than a step is not printed
 stream_rest : (s : List ℕ) → length s < 3 → stream_text s ≡ []
@@ -61,54 +54,46 @@ stream_rest (a ∷ []) h = refl
 stream_rest (a ∷ b ∷ []) h = refl
 stream_rest (a ∷ b ∷ c ∷ s) h = absurd (omega arith)
 
-stream_end : (s : List ℕ) (i : ℕ) → length s < i + 3 → stream_text (drop i s) ≡ []
-stream_end s i h = stream_rest (drop i s) (rw length-drop (omega arith))
-
--- where the printing stands: at byte i of the stream and at place `at` of the text, and what is left to be printed
-pub record Printing (stream out₀ out : List ℕ) (at i : ℕ) : Type 0 where
-  pub place : i ≤ length stream
-  pub pace : 3 * at ≡ 8 * i
+-- where the printing stands: at place `at` of the text, and what is left of the stream
+pub record Printing (stream out₀ out : List ℕ) (at : ℕ) (left : List ℕ) : Type 0 where
+  pub pace : 3 * at + 8 * length left ≡ 8 * length stream
   pub long : length out ≡ length out₀
-  pub rest : sets out₀ 0 (stream_text stream) ≡ sets out at (stream_text (drop i stream))
-  pub count : at + length (stream_text (drop i stream)) ≡ length (stream_text stream)
+  pub rest : sets out₀ 0 (stream_text stream) ≡ sets out at (stream_text left)
+  pub count : at + length (stream_text left) ≡ length (stream_text stream)
 
-pub printing_all : (stream out : List ℕ) → Printing stream out out 0 0
-printing_all stream out = record { place = omega arith; pace = refl; long = refl; rest = refl; count = zero-add (length (stream_text stream)) }
+pub printing_all : (stream out : List ℕ) → Printing stream out out 0 stream
+printing_all stream out = record { pace = omega arith; long = refl; rest = refl; count = zero-add (length (stream_text stream)) }
 
-module _ (stream out₀ out : List ℕ) (at i : ℕ) (p : Printing stream out₀ out at i) where
-  pub printing_step : (r : ℕ) (out' : List ℕ) → i + 3 ≤ length stream → Wrote at (step_text (get_or stream i 0) (get_or stream (i + 1) 0) (get_or stream (i + 2) 0)) out r out'
-      → Printing stream out₀ out' r (i + 3)
-  printing_step r out' h w =
+module _ (stream out₀ out : List ℕ) (at : ℕ) (left : List ℕ) (p : Printing stream out₀ out at left) where
+  pub printing_step : (step rest : List ℕ) → left ≡ step ++ rest → length step ≡ 3 → (r : ℕ) (out' : List ℕ) → Wrote at (step_text (get_or step 0 0) (get_or step 1 0) (get_or step 2 0)) out r out'
+      → Printing stream out₀ out' r rest
+  printing_step step rest e three r out' w =
       record {
-        place = h;
-        pace = let e : 3 * at ≡ 8 * i = p.pace in omega (arith, ended);
+        pace = let a : 3 * at + 8 * length left ≡ 8 * length stream = p.pace in let b : length left ≡ 3 + length rest = ap length e ∙ (length-append step rest ∙ ap (λ n. n + length rest) three) in omega (arith, ended);
         long = ap length w.bytes ∙ (length-sets out at line ∙ p.long);
-        rest = p.rest ∙ (ap (sets out at) more ∙ (sym (sets_append out at line left) ∙ (rw (w.end, w.bytes))));
+        rest = p.rest ∙ (ap (sets out at) more ∙ (sym (sets_append out at line (stream_text rest)) ∙ (rw (w.end, w.bytes))));
         count =
-            let a : at + length (stream_text (drop i stream)) ≡ length (stream_text stream) = p.count in
-            let b : length (stream_text (drop i stream)) ≡ 8 + length left = ap length more ∙ (length-append line left ∙ ap (λ n. n + length left) eight) in
+            let a : at + length (stream_text left) ≡ length (stream_text stream) = p.count in
+            let b : length (stream_text left) ≡ 8 + length (stream_text rest) = ap length more ∙ (length-append line (stream_text rest) ∙ ap (λ n. n + length (stream_text rest)) eight) in
             omega (arith, ended);
       }
     where
       line : List ℕ
-      line = step_text (get_or stream i 0) (get_or stream (i + 1) 0) (get_or stream (i + 2) 0)
+      line = step_text (get_or step 0 0) (get_or step 1 0) (get_or step 2 0)
 
-      left : List ℕ
-      left = stream_text (drop (i + 3) stream)
-
-      more : stream_text (drop i stream) ≡ line ++ left
-      more = stream_more stream i h
+      more : stream_text left ≡ line ++ stream_text rest
+      more = ap stream_text e ∙ stream_more step rest three
 
       eight : length line ≡ 8
-      eight = length_step_text (get_or stream i 0) (get_or stream (i + 1) 0) (get_or stream (i + 2) 0)
+      eight = length_step_text (get_or step 0 0) (get_or step 1 0) (get_or step 2 0)
 
       ended : r ≡ at + 8
       ended = w.end ∙ ap (λ n. at + n) eight
 
-  pub printing_done : length stream < i + 3 → Prints (stream_text stream) out₀ at out
+  pub printing_done : length left < 3 → Prints (stream_text stream) out₀ at out
   printing_done h =
-      let none : stream_text (drop i stream) ≡ [] = stream_end stream i h in
+      let none : stream_text left ≡ [] = stream_rest left h in
       record {
-        count = let a : at + length (stream_text (drop i stream)) ≡ length (stream_text stream) = p.count in let b : length (stream_text (drop i stream)) ≡ 0 = ap length none in omega arith;
+        count = let a : at + length (stream_text left) ≡ length (stream_text stream) = p.count in let b : length (stream_text left) ≡ 0 = ap length none in omega arith;
         stored = sym (p.rest ∙ ap (sets out at) none);
       }

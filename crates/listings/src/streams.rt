@@ -22,8 +22,7 @@ pub(crate) fn put_plan(out: &mut [u8], planned: Planned, stream: &[u8]) -> usize
     if planned.number != 0 {
         return print::refusal(out, planned.number, 0, 0);
     }
-    let end = 3 * planned.steps;
-    put_stream(out, &stream[..end])
+    put_stream(out, &stream[..3 * planned.steps])
 }
 
 // Prints a stream as far as there is room, and answers the length of the whole text.
@@ -32,10 +31,8 @@ fn put_stream(out: &mut [u8], stream: &[u8]) -> usize
     ensures { Prints (stream_text stream.now) out.old result out.new }
 {
     let mut at = 0;
-    let mut i = 0;
-    while i + 3 <= stream.len() {
-        at = put_step(out, at, stream[i], stream[i + 1], stream[i + 2]);
-        i += 3;
+    for step in stream.chunks_exact(3) {
+        at = put_step(out, at, step[0], step[1], step[2]);
     }
     at
 }

@@ -7,9 +7,10 @@ ghost use Rattle.plan.specs.Demands.{programmed};
 ghost use Rattle.print.specs.Print.{Prints};
 ghost use Rattle.board.specs.Open.{most_program};
 ghost use Rattle.listings.specs.Wanteds.{left_text};
-ghost use Rattle.listings.specs.LawsPlans.{plan_number, known_to};
+ghost use Rattle.listings.specs.LawsPlans.{is_fresh, plan_number, known_to};
 ghost use Rattle.listings.specs.LawsLeft.{left_word};
 
+use crate::plans::Planner;
 use device::{Device, READING_TAIL};
 
 // The length of the longest sheet.
@@ -21,46 +22,49 @@ pub(crate) fn put_left(
     id: u16,
     image: &[u16],
     reading: &[u16],
-    fresh: bool,
+    planner: Planner,
     number: u8,
     out: &mut [u8],
 ) -> usize
-    requires { (device_up_to most_program d ≡ true) × (reading_ok d.words reading.now ≡ true) × (number ≡ plan_number fresh d image.now reading.now) × (id < 0x4000) }
-    ensures { Prints (left_text number id d (programmed d image.now (known_to fresh reading.now) reading.now)) out.old result out.new }
+    requires { (device_up_to most_program d ≡ true) × (reading_ok d.words reading.now ≡ true) × (number ≡ plan_number (is_fresh planner) d image.now reading.now) × (id < 0x4000) }
+    ensures { Prints (left_text number id d (programmed d image.now (known_to (is_fresh planner) reading.now) reading.now)) out.old result out.new }
 {
     if number != 0 {
         return print::refusal(out, number, 0, 0);
     }
     let count = (d.words as usize) + READING_TAIL;
     let mut words = [0u16; board::MOST_READING];
-    fill(d, image, reading, fresh, &mut words[..count]);
+    fill(
+        d,
+        image,
+        planner.known(reading),
+        reading,
+        &mut words[..count],
+    );
     put_sheet(d, id, &words[..count], out)
 }
 
 // Stores each word that the board is to hold.
-fn fill(d: Device, image: &[u16], reading: &[u16], fresh: bool, words: &mut [u16])
+fn fill(d: Device, image: &[u16], known: &[u16], reading: &[u16], words: &mut [u16])
     requires { length words.old ≡ length reading.now }
-    ensures { words.new ≡ programmed d image.now (known_to fresh reading.now) reading.now }
+    ensures { words.new ≡ programmed d image.now known.now reading.now }
 {
-    let mut i = 0;
-    while i < words.len() {
-        words[i] = left_word(d, image, reading, fresh, i);
-        i += 1;
+    for (i, word) in words.iter_mut().enumerate() {
+        *word = left_word(d, image, known, reading, i);
     }
 }
 
-// A word that nothing programs stays; a fresh programming knows nothing of the others.
-fn left_word(d: Device, image: &[u16], reading: &[u16], fresh: bool, i: usize) -> u16
+// A word that nothing programs stays.
+#[tactic(auto, unfolding(crate::specs::LawsLeft::left_word, words::specs::Choice::pick))]
+fn left_word(d: Device, image: &[u16], known: &[u16], reading: &[u16], i: usize) -> u16
     requires { i < length reading.now }
-    ensures { result ≡ left_word fresh d image.now reading.now i }
+    ensures { result ≡ left_word d image.now known.now reading.now i }
 {
-    if device::programmable(d.words, i) {} else {
-        return reading[i];
+    if device::programmable(d.words, i) {
+        aim::wanted(d, image, known, i)
+    } else {
+        reading[i]
     }
-    if fresh {
-        return aim::wanted(d, image, &reading[..0], i);
-    }
-    aim::wanted(d, image, reading, i)
 }
 
 // The sheet of a reading with this ID on line 1.
@@ -69,15 +73,7 @@ fn put_sheet(d: Device, id: u16, reading: &[u16], out: &mut [u8]) -> usize
     ensures { Prints (sheet_with id d reading.now) out.old result out.new }
 {
     let mut sheet = [0u8; MOST_SHEET];
-    let named = Device {
-        id,
-        words: d.words,
-        row: d.row,
-        mask1: d.mask1,
-        mask2: d.mask2,
-        idmask: d.idmask,
-    };
+    let named = Device { id, ..d };
     let written = sheetwrite::write_sheet(named, reading, &mut sheet);
-    let length = written.length;
-    print::text(out, &sheet[..length])
+    print::text(out, &sheet[..written.length])
 }

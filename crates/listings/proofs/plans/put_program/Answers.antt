@@ -3,7 +3,7 @@ use mathlib.Core.Path.{sym}
 use Rattle.print.specs.LawsPrint.{prints_as}
 use Rattle.sheet.specs.LawsFirstLine.{first_small}
 use Rattle.board.specs.LawsBoard.{board_opened, other_room, other_long}
-use Rattle.listings.specs.LawsPlans.{program_refused, program_long, program_hex, program_within, program_front, program_found}
+use Rattle.listings.specs.LawsPlans.{is_fresh, is_sheet, program_refused, program_long, program_hex, program_within, program_front, program_found}
 use Rattle.listings.proofs.plans.put_program.Goals as goal
 
 pub returns-then-opened-ne0 : goal.returns-then-opened-ne0
@@ -50,7 +50,7 @@ slice_bounds-image-end-2 c =
     let h = c.if-hex-gt-MOST_HEX.false in
     let r = c.read_hex-given.ensures in
     let y = c.if-given-ne0.false in
-    program_within a.fresh a.left _ _ _ _ o.0 z _ _ b h _ (other_long _ _ _ _ b 0xffff) _ _ r y _
+    program_within (is_fresh a.planner) (is_sheet a.printed) _ _ _ _ o.0 z _ _ b h _ (other_long _ _ _ _ b 0xffff) _ _ r y _
 
 pub slice_bounds-put_planned-end : goal.slice_bounds-put_planned-end
 slice_bounds-put_planned-end c =
@@ -61,7 +61,7 @@ slice_bounds-put_planned-end c =
     let h = c.if-hex-gt-MOST_HEX.false in
     let r = c.read_hex-given.ensures in
     let y = c.if-given-ne0.false in
-    sym (program_front a.fresh a.left _ _ _ _ o.0 z _ _ b h _ (other_long _ _ _ _ b 0xffff) _ _ r y _)
+    sym (program_front (is_fresh a.planner) (is_sheet a.printed) _ _ _ _ o.0 z _ _ b h _ (other_long _ _ _ _ b 0xffff) _ _ r y _)
 
 pub slice_bounds-reading-end : goal.slice_bounds-reading-end
 slice_bounds-reading-end c =

@@ -22,26 +22,26 @@ pub slice_bounds-words-end-2 : goal.slice_bounds-words-end-2
 slice_bounds-words-end-2 c =
     let p = c.requires in
     let z = c.if-number-ne0.false in
-    let f = c.fill.ensures in
+    let f = rw c.known.ensures at c.fill.ensures in
     left_within _ _ _ _ p.1 (sym p.2 ∙ z) _ _ f
 
 pub slice_bounds-put_sheet-end : goal.slice_bounds-put_sheet-end
 slice_bounds-put_sheet-end c =
     let p = c.requires in
     let z = c.if-number-ne0.false in
-    let f = c.fill.ensures in
+    let f = rw c.known.ensures at c.fill.ensures in
     sym (left_part _ _ _ _ p.1 (sym p.2 ∙ z) _ _ f)
 
 pub put_sheet-requires : goal.put_sheet-requires
 put_sheet-requires c =
     let p = c.requires in
     let z = c.if-number-ne0.false in
-    let f = c.fill.ensures in
+    let f = rw c.known.ensures at c.fill.ensures in
     (p.0, left_sound _ _ _ _ p.1 (sym p.2 ∙ z) _ _ f, p.3)
 
 pub returns : goal.returns
 returns c =
     let p = c.requires in
     let z = c.if-number-ne0.false in
-    let f = c.fill.ensures in
+    let f = rw c.known.ensures at c.fill.ensures in
     prints_as _ _ _ _ _ (left_found _ _ _ _ p.1 (sym p.2 ∙ z) _ _ f _ _ z) c.put_sheet.ensures
