@@ -17,7 +17,7 @@ pub fn refusal(out: &mut [u8], number: u8, line: u32, column: u32) -> usize
     ensures { Prints (refused_text number line column) out.old result out.new }
 {
     let first = text(out, b"refused\t");
-    let second = parts::put_number(out, first, number as u32, TAB);
+    let second = parts::put_number(out, first, u32::from(number), TAB);
     let third = parts::put_number(out, second, line, TAB);
     parts::put_number(out, third, column, LF)
 }
@@ -38,17 +38,15 @@ pub fn verdict(out: &mut [u8], number: u8, address: WordAddress, count: u32) -> 
         let second = parts::put_hex(out, first, address.0, TAB);
         return parts::put_number(out, second, count, LF);
     }
-    parts::put_number(out, 0, number as u32, LF)
+    parts::put_number(out, 0, u32::from(number), LF)
 }
 
 // A text as it stands.
+#[tactic(auto, using(crate::specs::LawsPrint::text_stored))]
 pub fn text(out: &mut [u8], text: &[u8]) -> usize
     ensures { Prints text.now out.old result out.new }
 {
-    let mut i = 0;
-    while i < text.len() {
-        numerals::hex::put(out, i, text[i]);
-        i += 1;
-    }
-    i
+    let n = text.len().min(out.len());
+    out[..n].copy_from_slice(&text[..n]);
+    text.len()
 }

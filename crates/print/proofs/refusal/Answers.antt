@@ -12,5 +12,5 @@ put_number-requires c = omega (arith, refused_end _ _ _ c.text-first.ensures, nu
 
 pub returns : goal.returns
 returns c = refused_printed _ _ _ _ _ _ _ _ _ _ _ _ c.text-first.ensures
-    c.put_number-second.ensures c.put_number-third.ensures
+    (rw c.from.ensures at c.put_number-second.ensures) c.put_number-third.ensures
     c.put_number.ensures

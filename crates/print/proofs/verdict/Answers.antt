@@ -21,4 +21,4 @@ returns-then-number-eq40 c = verdict_40 _ _ _ c.if-number-eq40.true _ _ _ _ _ _ 
     c.put_hex-second.ensures c.put_number.ensures
 
 pub returns : goal.returns
-returns c = verdict_alone _ _ _ c.if-number-eq40.false _ _ _ c.put_number-2.ensures
+returns c = verdict_alone _ _ _ c.if-number-eq40.false _ _ _ (rw c.from.ensures at c.put_number-2.ensures)
