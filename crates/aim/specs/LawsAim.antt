@@ -1,15 +1,14 @@
 -- The tests by which the code finds a wanted word and chooses what it writes, one by one.
-use Rattle.std.specs.Prelude.{ℕ, ◌+◌, ◌*◌, ◌≤◌, ◌<◌, ◌≡◌, Bool, ◌||◌, not, List, eqb, length, get_or}
+use Rattle.std.specs.Prelude.{ℕ, ◌+◌, ◌*◌, ◌≤◌, ◌<◌, ◌≡◌, Bool, ◌||◌, not, List, length, get_or}
 use Rattle.std.proofs.Common.{mul-le-mul_right, arith, sym, ap₂, ◌∙◌, lt-ltb, le-ltb}
 use Rattle.std.proofs.Math.Path.{refl}
 use Rattle.std.proofs.Math.Bool.{true, false}
-use Rattle.std.proofs.Math.ListN.{get_or-eq_default}
-use Rattle.words.specs.Word.{erased, not_given, under_mask}
+use Rattle.words.specs.Word.{not_given, under_mask}
 use Rattle.device.specs.declared.Device.{Device}
 use Rattle.device.specs.Memory.{cp_word, mask_at}
 use Rattle.target.specs.Chip.{Chip}
 use Rattle.aim.specs.Wanted.{known, wanted, some, differs, only_clears, rises, row_differs, row_rises, id_differs, id_rises, config_writes}
-use Rattle.aim.specs.LawsWanted.{same_default, known_inside, known_past, wanted_silent, wanted_given, wanted_whole}
+use Rattle.aim.specs.LawsWanted.{same_default, known_inside, wanted_silent, wanted_given, wanted_whole}
 use Rattle.aim.specs.LawsRises.{clears_same, rises_not}
 
 -- ---- the known word, and the wanted one
@@ -18,15 +17,9 @@ module _ (reading : List ℕ) (i : ℕ) where
   pub is_known : i < length reading → get_or reading i 0 ≡ known reading i
   is_known h = sym (known_inside reading i h)
 
-  pub is_erased : length reading ≤ i → erased ≡ known reading i
-  is_erased h = sym (known_past reading i h)
-
 module _ (image : List ℕ) (i : ℕ) where
   pub given_inside : i < length image → get_or image i 0 ≡ get_or image i not_given
   given_inside h = same_default image i 0 not_given h
-
-  pub given_past : length image ≤ i → not_given ≡ get_or image i not_given
-  given_past h = sym (get_or-eq_default image not_given h)
 
 module _ (d : Device) (image reading : List ℕ) (i given : ℕ) (e : given ≡ get_or image i not_given) where
   pub is_silent : (word : ℕ) → word ≡ known reading i → given ≡ not_given → word ≡ wanted d image reading i
@@ -41,21 +34,9 @@ module _ (d : Device) (image reading : List ℕ) (i given : ℕ) (e : given ≡ 
   is_under old word o w s =
       w ∙ (ap₂ (under_mask (mask_at d i)) e o ∙ sym (wanted_given d image reading i (λ q. s (e ∙ q))))
 
-pub differs_is : (word old : ℕ → ℕ) (i a b : ℕ) → a ≡ word i → b ≡ old i → not (eqb a b) ≡ differs word old i
-unfolding differs
-differs_is word old i a b p q = rw (p, q)
-
-module _ (word old : ℕ → ℕ) (i a b : ℕ) (p : a ≡ word i) (q : b ≡ old i) (r : Bool) (e : r ≡ only_clears a b) where
-  clears_is : r ≡ only_clears (word i) (old i)
-  clears_is = e ∙ rw (p, q)
-
-  pub rises_no : r ≡ true → false ≡ rises word old i
-  unfolding rises
-  rises_no t = rw (← clears_is, t)
-
-  pub rises_yes : r ≡ false → true ≡ rises word old i
-  unfolding rises
-  rises_yes f = rw (← clears_is, f)
+pub rises_is : (word old : ℕ → ℕ) (i a b : ℕ) (r : Bool) → a ≡ word i → b ≡ old i → r ≡ only_clears a b → not r ≡ rises word old i
+unfolding rises
+rises_is word old i a b r p q e = rw (e, p, q)
 
 -- ---- words that have every bit and stand within both lists
 
@@ -82,15 +63,9 @@ module _ (d : Device) (image reading : List ℕ) (i : ℕ) (p : Plain d image re
       let same : wanted d image reading i ≡ known reading i = wanted_silent d image reading i (sym (given_inside image i inside) ∙ (sym e ∙ s)) in
       sym (rises_not (wanted d image reading) (known reading) i (rw same (clears_same (known reading i))))
 
-  module _ (given : ℕ) (e : given ≡ get_or image i 0) (n : given ≡ not_given → ⊥) (r : Bool) (c : r ≡ only_clears given (get_or reading i 0)) where
-    held : r ≡ only_clears (get_or image i 0) (get_or reading i 0)
-    held = c ∙ rw e
-
-    pub plain_stays : r ≡ true → false ≡ rises (wanted d image reading) (known reading) i
-    plain_stays t = rises_no (wanted d image reading) (known reading) i (get_or image i 0) (get_or reading i 0) (is_plain (λ s. n (e ∙ s))) plain_known r held t
-
-    pub plain_rises : r ≡ false → true ≡ rises (wanted d image reading) (known reading) i
-    plain_rises f = rises_yes (wanted d image reading) (known reading) i (get_or image i 0) (get_or reading i 0) (is_plain (λ s. n (e ∙ s))) plain_known r held f
+  pub plain_given : (given : ℕ) → given ≡ get_or image i 0 → (given ≡ not_given → ⊥) → (r : Bool) → r ≡ only_clears given (get_or reading i 0)
+      → not r ≡ rises (wanted d image reading) (known reading) i
+  plain_given given e n r c = rises_is (wanted d image reading) (known reading) i given (get_or reading i 0) r (e ∙ is_plain (λ s. n (e ∙ s))) plain_known c
 
 -- ---- rows and user IDs
 

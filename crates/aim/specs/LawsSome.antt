@@ -1,6 +1,8 @@
 -- Laws of 'the test holds somewhere'.
-use Rattle.std.specs.Prelude.{ℕ, zero, suc, ◌+◌, ◌<◌, ◌≡◌, refl, Bool, true, false}
-use Rattle.std.proofs.Common.{not-suc-le-zero, le_of_suc-le-suc, eq-or-lt_of_le, add-one, arith, ap, ◌∙◌, ⊎_elim}
+use Rattle.std.specs.Prelude.{ℕ, zero, suc, ◌+◌, ◌<◌, ◌≡◌, refl, Bool, true, false, length, get_or, MatchBool}
+use Rattle.std.specs.List.{range_with_len, HoldsAt, AllWithin}
+use Rattle.std.proofs.lemmas.List.FromFn.{length-range_with_len, get_or-range_with_len}
+use Rattle.std.proofs.Common.{not-suc-le-zero, le_of_suc-le-suc, eq-or-lt_of_le, add-one, zero-add, arith, sym, ap, ◌∙◌, ⊎_elim}
 use Rattle.words.specs.LawsTests.{or_cases, or_left, or_right, or_none}
 use Rattle.aim.specs.Wanted.{some}
 
@@ -38,3 +40,11 @@ unfolding some
 some_weaken zero f g h e = e
 some_weaken (suc n) f g h e =
     ⊎_elim (λ p. or_left (some n g) (g n) (some_weaken n f g (λ k q. h k (omega arith)) p)) (λ p. or_right (some n g) (g n) (h n (omega arith) p)) (or_cases (some n f) (f n) e)
+
+-- a search with `any` among the numbers below n
+pub some_found : (n : ℕ) (f : ℕ → Bool) (r : Bool) → MatchBool r ((k : ℕ) × (k < length (range_with_len 0 n)) × HoldsAt (λ j. f j ≡ true) (range_with_len 0 n) k) (AllWithin (λ j. f j ≡ false) (range_with_len 0 n) 0 (length (range_with_len 0 n)))
+    → r ≡ some n f
+some_found n f true (k, h, e) =
+    let l : k < n = omega (arith, length-range_with_len 0 n) in
+    sym (some_here n f k l (ap f (sym (get_or-range_with_len 0 n k 0 l ∙ zero-add k)) ∙ e 0))
+some_found n f false h = sym (some_nowhere n f (λ k l. let e : f (get_or (range_with_len 0 n) k 0) ≡ false = h k 0 (omega arith) (omega (arith, length-range_with_len 0 n)) in ap f (sym (get_or-range_with_len 0 n k 0 l ∙ zero-add k)) ∙ e))

@@ -5,5 +5,4 @@ pub mod LawsSome
 pub mod LawsWanted
 pub mod LawsRises
 pub mod LawsAim
-pub mod LawsRefusal
 pub mod LawsAccepted

@@ -2,9 +2,8 @@
 #![tactic(auto)]
 
 mod changes;
-mod refusal;
+mod refused;
 mod source;
 
-pub use changes::{id_differs, id_rises, is_written, row_differs, row_rises};
-pub use refusal::{fresh_refusal, update_refusal};
-pub use source::wanted;
+pub use refused::fresh_refusal;
+pub use source::Aim;
