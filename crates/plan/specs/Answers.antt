@@ -1,16 +1,27 @@
 -- What the planners answer and write ('Refusal numbers': 13, 26, and what stops an update or a fresh programming before).
-use Rattle.std.specs.Prelude.{ℕ, ◌*◌, ◌≡◌, List, leb, eqb, length}
+use Rattle.std.specs.Prelude.{ℕ, ◌*◌, ◌≡◌, List, Result, Ok, Err, leb, eqb, length}
 use Rattle.std.proofs.lemmas.List.Edits.{sets}
 use Rattle.words.specs.Choice.{pick, unless}
+use Rattle.refusal.specs.Refusal.{number_of}
+use Rattle.refusal.specs.declared.Refusal.{Refusal}
 use Rattle.device.specs.declared.Device.{Device}
 use Rattle.device.specs.Record.{device_ok}
 use Rattle.target.specs.declared.Order.{Order}
 use Rattle.target.specs.Stream.{bytes_of}
-use Rattle.plan.specs.declared.Planned.{Planned}
 
 -- what a read-back is refused with, room apart
 unfoldable pub read_back_number : Device → ℕ
 read_back_number d = unless (device_ok d) 13 0
+
+-- the number of steps that were written; or a refusal's number, and 0
+pub record Planned : Type 0 where
+  pub number : ℕ
+  pub steps : ℕ
+
+-- an answer of the code, so told
+abbrev pub planned_told : Result ℕ Refusal → Planned
+planned_told (Ok steps) = record { number = 0; steps = steps }
+planned_told (Err e) = record { number = number_of e; steps = 0 }
 
 -- ---- a plan: a refusal, 26 for a buffer that is too short, or the number of steps
 

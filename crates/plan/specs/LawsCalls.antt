@@ -13,12 +13,11 @@ use Rattle.target.specs.LawsStream.{length_bytes}
 use Rattle.target.specs.declared.Order.{Order}
 use Rattle.plan.specs.Steps.{update_steps, fresh_steps}
 use Rattle.aim.specs.Refusal.{update_number, fresh_number}
-use Rattle.plan.specs.Answers.{planned, Plans}
+use Rattle.plan.specs.Answers.{Planned, planned, Plans}
 use Rattle.plan.specs.Demands.{programmed}
 use Rattle.plan.specs.LawsDemands.{plan_bytes}
 use Rattle.plan.specs.LawsUpdate.{update_recovers}
 use Rattle.plan.specs.LawsFresh.{fresh_recovers}
-use Rattle.plan.specs.declared.Planned.{Planned}
 
 -- ---- an answer of 0
 

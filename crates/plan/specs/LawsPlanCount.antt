@@ -1,5 +1,6 @@
 -- Steps counted without being written, and what is still to be counted.
 use Rattle.std.specs.Prelude.{ℕ, ◌+◌, ◌-◌, ◌*◌, ◌≤◌, ◌<◌, ◌≡◌, refl, Bool, true, false, List, [], ◌∷◌, ◌++◌, length}
+use Rattle.std.specs.Int.{from_bool}
 use Rattle.std.proofs.Common.{arith, sym, ap, subst, ◌∙◌, length-append}
 use Rattle.words.specs.Word.{erased}
 use Rattle.device.specs.declared.Device.{Device}
@@ -11,7 +12,7 @@ use Rattle.target.specs.declared.Order.{Order}
 use Rattle.target.specs.declared.Order.TheVariants.{LoadConfiguration, ResetAddress, BulkErase}
 use Rattle.aim.specs.Wanted.{known, wanted, some, id_differs, id_rises}
 use Rattle.plan.specs.Steps.{erasing, row_steps, rows_from, word_steps, writes_from, config_steps, update_steps, fresh_steps, read_back_steps}
-use Rattle.plan.specs.LawsPlanSteps.{plan_body, erasing_yes, erasing_no, rows_yes, writes_yes, config_yes, config_no, update_opens, fresh_opens}
+use Rattle.plan.specs.LawsPlanSteps.{plan_body, rows_yes, writes_yes, config_yes, config_no, update_opens, fresh_opens}
 use Rattle.plan.specs.LawsPlanBounds.{length_row, length_word, read_back_count}
 
 -- the promise of every count, with a bound that keeps sums of counts small
@@ -71,11 +72,10 @@ counts_then m n x y a b c e =
     let t : length (x ++ y) ≡ length x + length y = length-append x y in
     record { is = omega arith; few = omega arith }
 
-pub erase_counted : (b : Bool) → b ≡ true → Counts 1 (erasing b) 1
-erase_counted b e = counts_same 1 _ _ 1 (sym (erasing_yes b e)) (record { is = refl; few = omega arith })
-
-pub no_erase_counted : (b : Bool) → b ≡ false → Counts 1 (erasing b) 0
-no_erase_counted b e = counts_same 1 _ _ 0 (sym (erasing_no b e)) (record { is = refl; few = omega arith })
+pub erase_counted : (b : Bool) → Counts 1 (erasing b) (from_bool b)
+unfolding erasing
+erase_counted true = record { is = refl; few = omega arith }
+erase_counted false = record { is = refl; few = omega arith }
 
 pub erase_is : (a b : Bool) (r : ℕ) → a ≡ b → Counts 1 (erasing a) r → Counts 1 (erasing b) r
 erase_is a b r e c = counts_same 1 (erasing a) (erasing b) r (ap erasing e) c

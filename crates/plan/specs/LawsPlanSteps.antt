@@ -50,6 +50,14 @@ module _ (word : ℕ → ℕ) (i n : ℕ) where
   pub loads_last : n ≡ 1 → loads word i n ≡ LoadData (word i) ∷ []
   loads_last e = ap (loads word i) e ∙ (unfold loads in refl)
 
+-- the words from i up to a last one
+module _ (word : ℕ → ℕ) (i last : ℕ) where
+  pub loads_next : i < last → loads word i (last + 1 - i) ≡ (LoadData (word i) ∷ []) ++ ((Increment ∷ []) ++ loads word (i + 1) (last + 1 - (i + 1)))
+  loads_next h = loads_more word i (last + 1 - i) (omega arith) ∙ ap (λ n. LoadData (word i) ∷ Increment ∷ loads word (i + 1) n) (omega arith)
+
+  pub loads_end : i ≡ last → loads word i (last + 1 - i) ≡ LoadData (word last) ∷ []
+  loads_end e = loads_last word i (last + 1 - i) (omega arith) ∙ ap (λ j. LoadData (word j) ∷ []) e
+
 module _ (n : ℕ) where
   pub reads_more : 1 < n → reads n ≡ Read ∷ Increment ∷ reads (n - 1)
   reads_more h = ap reads two ∙ (opened ∙ ap (λ m. Read ∷ Increment ∷ reads m) (sym rest))
@@ -65,6 +73,14 @@ module _ (n : ℕ) where
 
   pub reads_last : n ≡ 1 → reads n ≡ Read ∷ []
   reads_last e = ap reads e ∙ (unfold reads in refl)
+
+-- of `count` words, the k-th is read, from 1 on
+module _ (count k : ℕ) where
+  pub reads_next : k < count → reads (count + 1 - k) ≡ (Read ∷ []) ++ ((Increment ∷ []) ++ reads (count + 1 - (k + 1)))
+  reads_next h = reads_more (count + 1 - k) (omega arith) ∙ ap (λ n. Read ∷ Increment ∷ reads n) (omega arith)
+
+  pub reads_end : k ≡ count → reads (count + 1 - k) ≡ Read ∷ []
+  reads_end e = reads_last (count + 1 - k) (omega arith)
 
 -- ---- rows
 
@@ -153,10 +169,6 @@ pub body_opens : (chip : Chip) (word old : ℕ → ℕ) (erase_row : ℕ → Boo
     ≡ rows_from chip erase_row word (row_differs chip word old) (chip.words / chip.row) 0 0 ++ config_steps chip erase_ids word (config_writes chip word old all_ids)
 unfolding body_of task_of
 body_opens chip word old erase_row erase_ids all_ids = refl
-
--- an erase that is asked for is made if the row rises
-pub erase_asked : (asked rises r : Bool) → asked ≡ true → r ≡ rises → r ≡ (asked && rises)
-erase_asked asked rises r a e = rw a e
 
 -- the rows that both planners write, n of them from row k on; whether one that rises is erased first is asked for
 abbrev pub plan_rows : Device → (image reading : List ℕ) → (erases : Bool) → (n k at : ℕ) → List Order

@@ -9,103 +9,110 @@ use Rattle.words.specs.LawsLists.{sets_append}
 use Rattle.target.specs.declared.Order.{Order}
 use Rattle.target.specs.Stream.{code_of, payload_of, step_bytes, bytes_of}
 use Rattle.target.specs.LawsStream.{length_bytes, bytes_append}
+use Rattle.plan.specs.declared.orders.Writer.{Writer}
 
--- the promise of every writer: so many bytes after the first s steps, and the number of steps then
-pub record Wrote (steps : List Order) (s : ℕ) (out : List ℕ) (r : ℕ) (out' : List ℕ) : Type 0 where
-  pub bytes : out' ≡ sets out (3 * s) (bytes_of steps)
-  pub count : r ≡ s + length steps
+-- the promise of every writer: so many bytes more in the same buffer, and the number of steps then
+pub record Wrote (steps : List Order) (w w' : Writer) : Type 0 where
+  pub bytes : w'.out.now ≡ sets w.out.now (3 * w.steps) (bytes_of steps)
+  pub count : w'.steps ≡ w.steps + length steps
+  pub same_buffer : w'.out.ghost_name ≡ w.out.ghost_name
 
 -- more than any count here reaches, and far below what a number of the machine holds
 abbrev pub ample : ℕ
 ample = 1000000
 
--- what every writer asks: after the first s steps these fit the buffer too
-pub record Room (steps : List Order) (s : ℕ) (out : List ℕ) : Type 0 where
-  pub few : s + length steps ≤ ample
-  pub fits : 3 * (s + length steps) ≤ length out
+-- what every writer asks: these steps fit the buffer too
+pub record Room (steps : List Order) (w : Writer) : Type 0 where
+  pub few : w.steps + length steps ≤ ample
+  pub fits : 3 * (w.steps + length steps) ≤ length w.out.now
 
 -- writing `rest` from here on gives what writing `all` gave at the start
-pub record Left (all : List Order) (s₀ : ℕ) (out₀ : List ℕ) (rest : List Order) (s : ℕ) (out : List ℕ) : Type 0 where
-  pub bytes : sets out (3 * s) (bytes_of rest) ≡ sets out₀ (3 * s₀) (bytes_of all)
-  pub count : s + length rest ≡ s₀ + length all
+pub record Left (all : List Order) (start : Writer) (rest : List Order) (w : Writer) : Type 0 where
+  pub bytes : sets w.out.now (3 * w.steps) (bytes_of rest) ≡ sets start.out.now (3 * start.steps) (bytes_of all)
+  pub count : w.steps + length rest ≡ start.steps + length all
+  pub same_buffer : w.out.ghost_name ≡ start.out.ghost_name
 
-pub wrote_none : (s : ℕ) (out : List ℕ) → Wrote [] s out s out
+pub wrote_none : {w : Writer} → Wrote [] w w
 unfolding bytes_of
-wrote_none s out = record { bytes = refl; count = omega arith }
+wrote_none = record { bytes = refl; count = omega arith; same_buffer = refl }
 
-pub wrote_same : (x y : List Order) (s : ℕ) (out : List ℕ) (r : ℕ) (out' : List ℕ) → x ≡ y → Wrote x s out r out' → Wrote y s out r out'
-wrote_same x y s out r out' e w = subst (λ z. Wrote z s out r out') e w
+pub wrote_same : {x y : List Order} {w w' : Writer} → x ≡ y → Wrote x w w' → Wrote y w w'
+wrote_same {w = w} {w' = w'} e h = subst (λ z. Wrote z w w') e h
 
-pub room_same : (x y : List Order) (s : ℕ) (out : List ℕ) → x ≡ y → Room x s out → Room y s out
-room_same x y s out e w = subst (λ z. Room z s out) e w
+pub room_same : {x y : List Order} {w : Writer} → x ≡ y → Room x w → Room y w
+room_same {w = w} e h = subst (λ z. Room z w) e h
 
 -- room for a whole stream, from the count of its steps
-pub room_whole : (steps : List Order) (out : List ℕ) (need : ℕ) → need ≡ length steps → need ≤ ample → 3 * need ≤ length out → Room steps 0 out
-room_whole steps out need e f h = record { few = omega arith; fits = omega arith }
-
--- room for the first part of what is to be written
-pub room_first : (all x y : List Order) (s : ℕ) (out : List ℕ) → all ≡ x ++ y → Room all s out → Room x s out
-room_first all x y s out e r =
-    let n : length all ≡ length x + length y = ap length e ∙ length-append x y in
-    let f : s + length all ≤ ample = r.few in
-    let g : 3 * (s + length all) ≤ length out = r.fits in
-    record { few = omega arith; fits = omega arith }
-
-pub left_all : (all : List Order) (s : ℕ) (out : List ℕ) → Left all s out all s out
-left_all all s out = record { bytes = refl; count = refl }
+pub room_whole : (steps : List Order) (w : Writer) (need : ℕ) → w.steps ≡ 0 → need ≡ length steps → need ≤ ample → 3 * need ≤ length w.out.now → Room steps w
+room_whole steps w need z e f h = record { few = omega arith; fits = omega arith }
 
 -- one step's three bytes
-pub wrote_one : (o : Order) (s : ℕ) (out : List ℕ) (code payload : ℕ) → code ≡ code_of o → payload ≡ payload_of o
-    → Wrote (o ∷ []) s out (s + 1) (set (set (set out (3 * s) code) (3 * s + 1) (payload % 256)) (3 * s + 2) (payload / 256))
+pub bytes_one : (o : Order) (s : ℕ) (out : List ℕ) (code payload : ℕ) → code ≡ code_of o → payload ≡ payload_of o
+    → set (set (set out (3 * s) code) (3 * s + 1) (payload % 256)) (3 * s + 2) (payload / 256) ≡ sets out (3 * s) (bytes_of (o ∷ []))
 unfolding bytes_of step_bytes
-wrote_one o s out code payload c p = record { bytes = rw (c, p, add-one, two_more); count = refl }
+bytes_one o s out code payload c p = rw (c, p, add-one, two_more)
   where
     two_more : 3 * s + 2 ≡ suc (suc (3 * s))
     two_more = omega arith
 
-module _ (all : List Order) (s₀ : ℕ) (out₀ : List ℕ) where
-  pub left_same : (x y : List Order) (s : ℕ) (out : List ℕ) → x ≡ y → Left all s₀ out₀ x s out → Left all s₀ out₀ y s out
-  left_same x y s out e l = subst (λ z. Left all s₀ out₀ z s out) e l
+-- ---- a writer at work: `all` is what it was to write at the start, and `x ++ y` what is left
 
-  -- the first part was written
-  pub left_then : (x y : List Order) (s : ℕ) (out : List ℕ) (s' : ℕ) (out' : List ℕ) → Left all s₀ out₀ (x ++ y) s out → Wrote x s out s' out' → Left all s₀ out₀ y s' out'
-  left_then x y s out s' out' l w = record { bytes = moved ∙ l.bytes; count = counted }
+module _ {all : List Order} {start : Writer} where
+  -- nothing is written yet
+  pub left_all : Left all start all start
+  left_all = record { bytes = refl; count = refl; same_buffer = refl }
+
+  pub left_same : {x y : List Order} {w : Writer} → x ≡ y → Left all start x w → Left all start y w
+  left_same {w = w} e l = subst (λ z. Left all start z w) e l
+
+  -- the next part was written
+  pub left_next : {x : List Order} (y : List Order) {w w' : Writer} → Left all start (x ++ y) w → Wrote x w w' → Left all start y w'
+  left_next {x = x} y {w = w} {w' = w'} l h = record { bytes = moved ∙ l.bytes; count = counted; same_buffer = h.same_buffer ∙ l.same_buffer }
     where
-      place : 3 * s' ≡ 3 * s + length (bytes_of x)
-      place = let n : length (bytes_of x) ≡ 3 * length x = length_bytes x in let c : s' ≡ s + length x = w.count in omega arith
+      place : 3 * w'.steps ≡ 3 * w.steps + length (bytes_of x)
+      place = let n : length (bytes_of x) ≡ 3 * length x = length_bytes x in let c : w'.steps ≡ w.steps + length x = h.count in omega arith
 
-      moved : sets out' (3 * s') (bytes_of y) ≡ sets out (3 * s) (bytes_of (x ++ y))
-      moved = ap (λ z. sets z (3 * s') (bytes_of y)) w.bytes
-          ∙ (ap (λ n. sets (sets out (3 * s) (bytes_of x)) n (bytes_of y)) place
-          ∙ (sets_append out (3 * s) (bytes_of x) (bytes_of y)
-          ∙ ap (sets out (3 * s)) (sym (bytes_append x y))))
+      moved : sets w'.out.now (3 * w'.steps) (bytes_of y) ≡ sets w.out.now (3 * w.steps) (bytes_of (x ++ y))
+      moved = ap (λ z. sets z (3 * w'.steps) (bytes_of y)) h.bytes
+          ∙ (ap (λ n. sets (sets w.out.now (3 * w.steps) (bytes_of x)) n (bytes_of y)) place
+          ∙ (sets_append w.out.now (3 * w.steps) (bytes_of x) (bytes_of y)
+          ∙ ap (sets w.out.now (3 * w.steps)) (sym (bytes_append x y))))
 
-      counted : s' + length y ≡ s₀ + length all
+      counted : w'.steps + length y ≡ start.steps + length all
       counted = let n : length (x ++ y) ≡ length x + length y = length-append x y in
-          let c : s' ≡ s + length x = w.count in
-          let t : s + length (x ++ y) ≡ s₀ + length all = l.count in omega arith
+          let c : w'.steps ≡ w.steps + length x = h.count in
+          let t : w.steps + length (x ++ y) ≡ start.steps + length all = l.count in omega arith
 
   -- the last part was written
-  pub left_done : (x : List Order) (s : ℕ) (out : List ℕ) (r : ℕ) (out' : List ℕ) → Left all s₀ out₀ x s out → Wrote x s out r out' → Wrote all s₀ out₀ r out'
-  left_done x s out r out' l w = record { bytes = w.bytes ∙ l.bytes; count = w.count ∙ l.count }
+  pub left_done : {x : List Order} {w w' : Writer} → Left all start x w → Wrote x w w' → Wrote all start w'
+  left_done l h = record { bytes = h.bytes ∙ l.bytes; count = h.count ∙ l.count; same_buffer = h.same_buffer ∙ l.same_buffer }
 
   -- nothing is left
-  pub left_none : (s : ℕ) (out : List ℕ) → Left all s₀ out₀ [] s out → Wrote all s₀ out₀ s out
+  pub left_none : {w : Writer} → Left all start [] w → Wrote all start w
   unfolding bytes_of
-  left_none s out l = record { bytes = l.bytes; count = let t : s + 0 ≡ s₀ + length all = l.count in omega arith }
+  left_none {w = w} l = record { bytes = l.bytes; count = let t : w.steps + 0 ≡ start.steps + length all = l.count in omega arith; same_buffer = l.same_buffer }
 
   -- the buffer is as long as at the start
-  left_long : (rest : List Order) (s : ℕ) (out : List ℕ) → Left all s₀ out₀ rest s out → length out ≡ length out₀
-  left_long rest s out l = sym (length-sets out (3 * s) (bytes_of rest)) ∙ (ap length l.bytes ∙ length-sets out₀ (3 * s₀) (bytes_of all))
+  left_long : (rest : List Order) (w : Writer) → Left all start rest w → length w.out.now ≡ length start.out.now
+  left_long rest w l = sym (length-sets w.out.now (3 * w.steps) (bytes_of rest)) ∙ (ap length l.bytes ∙ length-sets start.out.now (3 * start.steps) (bytes_of all))
 
-  -- room for all that is left, and for the next part
-  pub room_rest : (x : List Order) (s : ℕ) (out : List ℕ) → Left all s₀ out₀ x s out → Room all s₀ out₀ → Room x s out
-  room_rest x s out l r =
-      let t : s + length x ≡ s₀ + length all = l.count in
-      let f : s₀ + length all ≤ ample = r.few in
-      let g : 3 * (s₀ + length all) ≤ length out₀ = r.fits in
-      let n : length out ≡ length out₀ = left_long x s out l in
+  -- room for all that is left, and for the next part of it
+  pub room_rest : {x : List Order} {w : Writer} → Left all start x w → Room all start → Room x w
+  room_rest {x = x} {w = w} l r =
+      let t : w.steps + length x ≡ start.steps + length all = l.count in
+      let f : start.steps + length all ≤ ample = r.few in
+      let g : 3 * (start.steps + length all) ≤ length start.out.now = r.fits in
+      let n : length w.out.now ≡ length start.out.now = left_long x w l in
       record { few = omega arith; fits = omega arith }
 
-  pub room_part : (x y : List Order) (s : ℕ) (out : List ℕ) → Left all s₀ out₀ (x ++ y) s out → Room all s₀ out₀ → Room x s out
-  room_part x y s out l r = room_first (x ++ y) x y s out refl (room_rest (x ++ y) s out l r)
+  pub room_next : {x : List Order} (y : List Order) {w : Writer} → Left all start (x ++ y) w → Room all start → Room x w
+  room_next {x = x} y {w = w} l r =
+      let n : length (x ++ y) ≡ length x + length y = length-append x y in
+      let q : Room (x ++ y) w = room_rest l r in
+      let f : w.steps + length (x ++ y) ≤ ample = q.few in
+      let g : 3 * (w.steps + length (x ++ y)) ≤ length w.out.now = q.fits in
+      record { few = omega arith; fits = omega arith }
+
+-- what is to be written, opened
+pub opened : {all x : List Order} {w : Writer} → all ≡ x → Left all w x w
+opened e = left_same e left_all

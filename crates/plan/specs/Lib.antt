@@ -2,7 +2,6 @@
 pub mod Steps
 pub mod Answers
 pub mod Demands
-pub mod LawsPlanOrders
 pub mod LawsPlanWrote
 pub mod LawsPlanSteps
 pub mod LawsPlanSource

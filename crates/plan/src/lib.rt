@@ -6,12 +6,6 @@ mod count;
 mod orders;
 mod planner;
 mod rows;
+mod task;
 
 pub use planner::{fresh, read_back, update};
-
-// The number of steps that were written; or a refusal, and nothing else.
-#[derive(Clone, Copy)]
-pub struct Planned {
-    pub number: u8,
-    pub steps: usize,
-}

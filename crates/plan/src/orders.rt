@@ -1,5 +1,4 @@
-// Steps put into a stream. Each writer takes the number of steps before its own and answers the number after them; its caller has counted them and
-// knows that they fit, so that no store tests for room.
+// Steps put into a stream. Whoever writes has counted the steps and knows that they fit, so that no store tests for room.
 ghost use Rattle.std.specs.Prelude.{◌≡◌, [], ◌∷◌, ◌<◌};
 ghost use Rattle.target.specs.Stream.{code_of, payload_of};
 ghost use Rattle.target.specs.LawsStream.{FitsOrder};
@@ -9,6 +8,7 @@ ghost use Rattle.plan.specs.LawsPlanWrote.{Wrote, Room};
 use target::Order;
 
 // The code of an order.
+#[tactic(auto, unfolding(target::specs::Stream::code_of))]
 fn code_of(o: Order) -> u8
     ensures { result ≡ code_of o }
 {
@@ -25,73 +25,69 @@ fn code_of(o: Order) -> u8
 }
 
 // The payload of an order: twice the word of a load.
+#[tactic(auto, unfolding(target::specs::Stream::payload_of))]
 fn payload_of(o: Order) -> u16
     requires { FitsOrder o }
     ensures { result ≡ payload_of o }
 {
     match o {
-        Order::LoadConfiguration(w) => 2 * w,
-        Order::LoadData(w) => 2 * w,
-        Order::Read => 0,
-        Order::Increment => 0,
-        Order::ResetAddress => 0,
-        Order::Begin => 0,
-        Order::BulkErase => 0,
-        Order::RowErase => 0,
+        Order::LoadConfiguration(w) | Order::LoadData(w) => 2 * w,
+        _ => 0,
     }
 }
 
-// One step: code, payload low, payload high.
-pub(crate) fn put_order(out: &mut [u8], steps: usize, o: Order) -> usize
-    requires fits_order { FitsOrder o }
-    requires room { Room (o ∷ []) steps out.old }
-    ensures { Wrote (o ∷ []) steps out.old result out.new }
-{
-    let at = 3 * steps;
-    let payload = payload_of(o);
-    out[at] = code_of(o);
-    out[at + 1] = (payload % 256) as u8;
-    out[at + 2] = (payload / 256) as u8;
-    steps + 1
+// A stream that is being written into a lent buffer, and how many steps of it stand there.
+#[derive(Drop)]
+pub(crate) struct Writer<'a> {
+    pub(crate) out: &'a mut [u8],
+    pub(crate) steps: usize,
 }
 
-// Increments from one place up to another.
-pub(crate) fn put_walk(out: &mut [u8], steps: usize, from: usize, to: usize) -> usize
-    requires { Room (walk from to) steps out.old }
-    ensures { Wrote (walk from to) steps out.old result out.new }
-{
-    let mut done = steps;
-    let mut at = from;
-    while at < to {
-        done = put_order(out, done, Order::Increment);
-        at += 1;
+impl Writer<'_> {
+    // One step: code, payload low, payload high.
+    pub(crate) fn put(&mut self, o: Order)
+        requires fits_order { FitsOrder o }
+        requires room { Room (o ∷ []) self.old }
+        ensures { Wrote (o ∷ []) self.old self.new }
+    {
+        let at = 3 * self.steps;
+        let payload = payload_of(o);
+        self.out[at] = code_of(o);
+        self.out[at + 1] = (payload % 256) as u8;
+        self.out[at + 2] = (payload / 256) as u8;
+        self.steps += 1;
     }
-    done
-}
 
-// Row Erase where it is asked for.
-pub(crate) fn put_erase(out: &mut [u8], steps: usize, erase: bool) -> usize
-    requires { Room (erasing erase) steps out.old }
-    ensures { Wrote (erasing erase) steps out.old result out.new }
-{
-    if erase {
-        return put_order(out, steps, Order::RowErase);
+    // Increments from one place up to another.
+    pub(crate) fn walk(&mut self, from: usize, to: usize)
+        requires { Room (walk from to) self.old }
+        ensures { Wrote (walk from to) self.old self.new }
+    {
+        for _ in from..to {
+            self.put(Order::Increment);
+        }
     }
-    steps
-}
 
-// Reads of so many words, with an Increment between each two.
-pub(crate) fn put_reads(out: &mut [u8], steps: usize, count: usize) -> usize
-    requires count_nonzero { 0 < count }
-    requires room { Room (reads count) steps out.old }
-    ensures { Wrote (reads count) steps out.old result out.new }
-{
-    let mut done = steps;
-    let mut left = count;
-    while 1 < left {
-        let read = put_order(out, done, Order::Read);
-        done = put_order(out, read, Order::Increment);
-        left -= 1;
+    // Row Erase where it is asked for.
+    pub(crate) fn erase(&mut self, erase: bool)
+        requires { Room (erasing erase) self.old }
+        ensures { Wrote (erasing erase) self.old self.new }
+    {
+        if erase {
+            self.put(Order::RowErase);
+        }
     }
-    put_order(out, done, Order::Read)
+
+    // Reads of so many words, with an Increment between each two.
+    pub(crate) fn reads(&mut self, count: usize)
+        requires count_nonzero { 0 < count }
+        requires room { Room (reads count) self.old }
+        ensures { Wrote (reads count) self.old self.new }
+    {
+        for _ in 1..count {
+            self.put(Order::Read);
+            self.put(Order::Increment);
+        }
+        self.put(Order::Read);
+    }
 }
