@@ -12,6 +12,10 @@ use Rattle.target.specs.Step.{Target, place, moved, latched, changed, taken, eff
 use Rattle.target.specs.declared.Order.TheVariants.{LoadConfiguration, LoadData, Read, Increment, ResetAddress, Begin, BulkErase, RowErase}
 
 module _ (chip : Chip) (t : Target) where
+  -- the target whose cells Begin has written
+  abbrev pub written : Target
+  written = changed (edit (begin_written chip (place t) t.cells) (burnt chip (place t) t.registers.latches t.cells) t.cells) t
+
   -- ---- the two orders that can be refused
 
   -- no room
@@ -51,8 +55,7 @@ module _ (chip : Chip) (t : Target) where
   unfolding effect pick
   obeys_reset f = rw f
 
-  pub obeys_begin : (u : Target) → done u ≡ done (changed (edit (begin_written chip (place t) t.cells) (burnt chip (place t) t.registers.latches t.cells) t.cells) t)
-      → done (latched (replicate chip.places erased) u) ≡ effect chip Begin t
+  pub obeys_begin : (u : Target) → done u ≡ done written → done (latched (replicate chip.places erased) u) ≡ effect chip Begin t
   unfolding effect blank
   obeys_begin u e = ap (λ r. done (latched (replicate chip.places erased) r.target)) e
 

@@ -5,9 +5,10 @@ ghost use Rattle.words.specs.Word.{erased};
 ghost use Rattle.refusal.specs.Refusal.{number_in};
 ghost use Rattle.words.specs.Lists.{overlay};
 ghost use Rattle.target.specs.Chip.{chip_of};
-ghost use Rattle.target.specs.Effects.{at_erase, begin_written, burnt, edit, locked, word_read};
+ghost use Rattle.target.specs.Effects.{at_erase, locked, word_read};
 ghost use Rattle.target.specs.Model.{done};
-ghost use Rattle.target.specs.Step.{changed, effect, place};
+ghost use Rattle.target.specs.Step.{effect, place};
+ghost use Rattle.target.specs.LawsOrders.{written};
 ghost use Rattle.target.specs.declared.Order.TheVariants.{BulkErase, RowErase};
 ghost use Rattle.target.specs.LawsHeld.{chip_at, target_of, Leaves};
 
@@ -89,7 +90,7 @@ impl Board<'_> {
 
     // What Begin does to the cells.
     pub(crate) fn write(&mut self)
-        ensures { Leaves (done (changed (edit (begin_written (chip_at self.old) (place (target_of self.old)) self.old.cells.now) (burnt (chip_at self.old) (place (target_of self.old)) self.old.registers.latches self.old.cells.now) self.old.cells.now) (target_of self.old))) self.old 0 self.new }
+        ensures { Leaves (done (written (chip_at self.old) (target_of self.old))) self.old 0 self.new }
     {
         let d = self.sound.device;
         let row = d.row as usize;

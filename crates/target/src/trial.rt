@@ -80,5 +80,5 @@ fn payload_at(stream: &[u8], at: usize) -> u16
     requires { at + 2 < length stream.now }
     ensures { result ≡ get_or stream.now (at + 1) 0 + 256 * get_or stream.now (at + 2) 0 }
 {
-    u16::from(stream[at + 1]) + 256 * u16::from(stream[at + 2])
+    u16::from_le_bytes([stream[at + 1], stream[at + 2]])
 }
