@@ -3,11 +3,9 @@ use Rattle.std.specs.Prelude.{ℕ, ◌+◌, Bool, true, false, List, [], ◌∷�
 use Rattle.words.specs.Choice.{pick}
 use Rattle.judge.specs.Count.{count_to}
 use Rattle.target.specs.Model.{code_at, payload_at}
-use Rattle.target.specs.Step.{decoded}
+use Rattle.target.specs.Step.{Decoded, Do, Refused, decoded}
 use Rattle.target.specs.declared.Order.{Order}
 use Rattle.target.specs.declared.Order.TheVariants.{LoadConfiguration, LoadData, Read, Increment, ResetAddress, Begin, BulkErase, RowErase}
-use Rattle.target.specs.declared.Decoded.{Decoded}
-use Rattle.target.specs.declared.Decoded.TheVariants.{Do, Refused}
 
 -- ---- orders
 

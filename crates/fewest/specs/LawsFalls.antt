@@ -13,15 +13,13 @@ use Rattle.words.specs.LawsWord.{Contains}
 use Rattle.target.specs.Chip.{Chip}
 use Rattle.target.specs.Effects.{id_cell, at_erase, row_erased, begin_written, burnt, latch_of, edit, word_read}
 use Rattle.target.specs.Model.{Effect, done, stops}
-use Rattle.target.specs.Step.{Target, effect, step_effect, place, taken}
+use Rattle.target.specs.Step.{Decoded, Do, Refused, Target, effect, step_effect, place, taken}
 use Rattle.target.specs.LawsChip.{SoundChip}
 use Rattle.target.specs.LawsEdit.{edit_hit, edit_kept, length_edit}
 use Rattle.target.specs.LawsHits.{not_program}
 use Rattle.target.specs.LawsBlocks.{Block, row_hits}
 use Rattle.target.specs.declared.Order.{Order}
 use Rattle.target.specs.declared.Order.TheVariants.{LoadConfiguration, LoadData, Read, Increment, ResetAddress, Begin, BulkErase, RowErase}
-use Rattle.target.specs.declared.Decoded.{Decoded}
-use Rattle.target.specs.declared.Decoded.TheVariants.{Do, Refused}
 use Rattle.fewest.specs.Erases.{is_row_erase, is_bulk_erase, step_is}
 use Rattle.fewest.specs.LawsClears.{OnlyClears, contains_self}
 use Rattle.fewest.specs.LawsLack.{lacking, lacking_still, lacking_row, lacking_ids}

@@ -10,12 +10,11 @@ use Rattle.words.specs.LawsWord.{Contains}
 use Rattle.judge.specs.Count.{count_to}
 use Rattle.target.specs.Chip.{Chip}
 use Rattle.target.specs.Model.{Effect, Run, code_at, payload_at, onward, turn, after, started, run_of}
-use Rattle.target.specs.Step.{Target, decoded, step_effect, unread}
+use Rattle.target.specs.Step.{Decoded, Target, decoded, step_effect, unread}
 use Rattle.target.specs.Run.{model_on, entered}
 use Rattle.target.specs.LawsChip.{SoundChip}
 use Rattle.target.specs.LawsModel.{stands}
 use Rattle.target.specs.declared.Order.{Order}
-use Rattle.target.specs.declared.Decoded.{Decoded}
 use Rattle.fewest.specs.Erases.{is_row_erase, is_bulk_erase, step_is, steps_of}
 use Rattle.fewest.specs.LawsClears.{OnlyClears}
 use Rattle.fewest.specs.LawsCounts.{one_fails}
