@@ -1,12 +1,13 @@
 -- Line 1 of a sheet, which tells its two forms apart (#106; #107 for the ID). Text is a list of bytes.
-use Rattle.std.specs.Prelude.{ℕ, ◌+◌, Bool, true, false, ◌&&◌, List, [], ◌∷◌, ◌++◌, ltb, eqb, length, get_or, take, drop}
+use Rattle.std.specs.Prelude.{ℕ, ◌+◌, Bool, true, false, Result, ◌&&◌, List, [], ◌∷◌, ◌++◌, ltb, eqb, length, get_or, take, drop}
 use Rattle.marks.specs.Marks.{index_of}
 use Rattle.words.specs.Choice.{pick, unless}
 use Rattle.words.specs.Word.{is_word}
 use Rattle.numerals.specs.Text.{tab, lf}
 use Rattle.numerals.specs.Hex.{capital_of, word_by, word_text}
+use Rattle.refusal.specs.Refusal.{number_in, value_in}
+use Rattle.refusal.specs.declared.Refusal.{Refusal}
 use Rattle.table.specs.Table.{name_ok}
-use Rattle.sheet.specs.declared.Line1.{Line1}
 
 unfoldable pub same_text : List ℕ → List ℕ → Bool
 same_text [] [] = true
@@ -59,7 +60,15 @@ rest_in text = drop (length (line_in text)) text
 
 -- ---- the answer: 14, or the ID of either form
 
+pub record Line1 : Type 0 where
+  pub number : ℕ
+  pub id : ℕ
+
 unfoldable pub first_line : List ℕ → Line1
 first_line text =
     unless (line_ok text) (record { number = 14; id = 0 })
     (record { number = 0; id = id_in text })
+
+-- what the call that reads it answers, as a number and an ID
+abbrev pub id_told : Result ℕ Refusal → Line1
+id_told answer = record { number = number_in answer; id = value_in 0 answer }

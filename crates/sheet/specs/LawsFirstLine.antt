@@ -1,9 +1,9 @@
 -- Laws of line 1: what its test tells in each form, what the code's parts come to, and that what is written in either form is read back.
 use Prim.Native.Nat.{ℕ, suc, ◌+◌, ◌-◌, ◌≤◌, ◌<◌}
-use Rattle.std.proofs.Common.{not-suc-le-zero, le_of_suc-le-suc, ◌∙◌, length-append, length-drop, get_or-drop}
+use Rattle.std.proofs.Common.{not-suc-le-zero, le_of_suc-le-suc, ◌∙◌, length-append, length-drop, get_or-drop, take_all}
 use native.Mathlib.Omega.{arith}
 use Rattle.std.proofs.Math.Decide.{dec_lt}
-use Rattle.std.specs.Prelude.{◌≡◌, Bool, ◌&&◌, eqb, get_or}
+use Rattle.std.specs.Prelude.{◌≡◌, Some, None, Result, Bool, ◌&&◌, eqb, get_or}
 use Rattle.std.proofs.Math.Path.{refl, sym, ap}
 use Rattle.std.proofs.Math.Bool.{true, false}
 use mathlib.Core.List.{List, [], ◌∷◌, ◌++◌, append_assoc}
@@ -12,7 +12,7 @@ use Rattle.std.proofs.Math.ListN.{length, take, drop, take-append-drop}
 use Rattle.std.proofs.Math.Seq.{take-length, length-take-le, take-append_seam, drop-append_seam, drop-append-add}
 use borrow.Author.Tests.{lt-ltb, ltb-true, eq-eqb, eqb-true, ne_eqb}
 use Rattle.marks.specs.Marks.{index_of, index_after, slice}
-use Rattle.words.specs.Choice.{pick}
+use Rattle.words.specs.Choice.{pick, below}
 use Rattle.words.specs.Word.{is_word}
 use Rattle.words.specs.LawsChoice.{pick_true, pick_false, both, first_holds, second_holds, true_not_false}
 use Rattle.words.specs.LawsTests.{fails, by_test}
@@ -21,9 +21,11 @@ use Rattle.words.specs.LawsWord.{is_word_lem, word_lt}
 use Rattle.numerals.specs.Text.{tab, lf}
 use Rattle.numerals.specs.Hex.{within, capital_of, word_by, word_text}
 use Rattle.numerals.specs.LawsHex.{length_word_text, within_low}
+use Rattle.refusal.specs.declared.Refusal.{Refusal}
+use Rattle.refusal.specs.LawsRefusal.{answer_unique}
 use Rattle.table.specs.Table.{all_printable, name_ok}
-use Rattle.sheet.specs.declared.Line1.{Line1}
-use Rattle.sheet.specs.FirstLine.{same_text, old_line, new_line, id_in, is_new, name_in, sum_in, line_in, line_ok, rest_in, first_line}
+use Rattle.table.specs.LawsLine.{below_none, below_some}
+use Rattle.sheet.specs.FirstLine.{Line1, id_told, same_text, old_line, new_line, id_in, is_new, name_in, sum_in, line_in, line_ok, rest_in, first_line}
 use Rattle.sheet.specs.LawsStands.{Stands, stands_join, stands_left, stands_right, stands_byte, byte_stands, stands_next, stands_cons, stands_part, stands_front, front_stands, stands_word, word_stands, same_self, same_equal}
 
 -- ---- lengths
@@ -238,62 +240,56 @@ module _ (t : List ℕ) where
 
 -- ---- what the code's parts come to
 
--- line 1 as it was read: whether it is of a form, of which, and its fields; where its name ends, and how long it is
-pub record HeadOf (t : List ℕ) (ok new : Bool) (id end sum size : ℕ) : Type 0 where
-  pub test : ok ≡ line_ok t
-  pub form : ok ≡ true → new ≡ is_new t
-  pub id_is : ok ≡ true → id ≡ id_in t
-  pub size_is : ok ≡ true → size ≡ length (line_in t)
-  pub size_in : size ≤ length t
-  pub end_from : 5 ≤ end
-  pub end_in : ok ≡ true → new ≡ true → end ≤ length t
-  pub name_is : ok ≡ true → new ≡ true → take (end - 5) (drop 5 t) ≡ name_in t
-  pub sum_is : ok ≡ true → new ≡ true → sum ≡ sum_in t
+-- line 1 as it was read: its ID, and what stands after it
+pub record HeadOf (t : List ℕ) (id : ℕ) (rest : List ℕ) : Type 0 where
+  pub ok : line_ok t ≡ true
+  pub id_is : id ≡ id_in t
+  pub rest_is : rest ≡ rest_in t
+
+-- and in the new form its name and its sum
+pub record LabelOf (t name : List ℕ) (sum : ℕ) : Type 0 where
+  pub new : is_new t ≡ true
+  pub name_is : name ≡ name_in t
+  pub sum_is : sum ≡ sum_in t
 
 module _ (t : List ℕ) where
-  pub no_head : line_ok t ≡ false → HeadOf t false false 0 5 0 0
-  no_head f =
-      record {
-        test = sym f;
-        form = λ e. absurd (true_not_false e refl);
-        id_is = λ e. absurd (true_not_false e refl);
-        size_is = λ e. absurd (true_not_false e refl);
-        size_in = omega arith;
-        end_from = omega arith;
-        end_in = λ e. absurd (true_not_false e refl);
-        name_is = λ e. absurd (true_not_false e refl);
-        sum_is = λ e. absurd (true_not_false e refl);
-      }
+  -- what stands after it, as the code cuts it
+  rest_cut : (size : ℕ) → size ≡ length (line_in t) → take (length t - size) (drop size t) ≡ rest_in t
+  unfolding rest_in
+  rest_cut size e = take_all (length t - size) (drop size t) (rw length-drop (omega arith)) ∙ ap (λ n. drop n t) e
 
-  pub head_no_id : 0x4000 ≤ word_by capital_of t 0 → HeadOf t false false 0 5 0 0
-  head_no_id h = no_head (fails (line_ok t) (λ e. let s : id_in t < 0x4000 = line_id t e in omega arith))
+  pub head_no_id : below 65536 (word_by capital_of t 0) ≡ None → line_ok t ≡ false
+  head_no_id e = fails (line_ok t) (λ ok. let s : id_in t < 0x4000 = line_id t ok in omega (arith, below_none 65536 _ e))
 
-  module _ (small : word_by capital_of t 0 < 0x4000) where
-    pub head_old : eqb (get_or t 4 0) lf ≡ true → (id : ℕ) → id ≡ word_by capital_of t 0 → HeadOf t true false id 5 0 5
-    head_old e id is =
-        let here : get_or t 4 0 ≡ lf = eqb-true (get_or t 4 0) lf e in
-        let f : is_new t ≡ false = old_form t small here in
-        let short : 4 < length t = inside t 4 lf here (omega arith) in
-        record {
-          test = sym (line_old t small here);
-          form = λ q. sym f;
-          id_is = λ q. is;
-          size_is = λ q. sym (ap length (is_old t f) ∙ length_old (id_in t));
-          size_in = omega arith;
-          end_from = omega arith;
-          end_in = λ q y. absurd (true_not_false y refl);
-          name_is = λ q y. absurd (true_not_false y refl);
-          sum_is = λ q y. absurd (true_not_false y refl);
-        }
+  pub head_short : length t ≤ 4 → line_ok t ≡ false
+  head_short h =
+      let z : get_or t 4 0 ≡ 0 = get_d_past t 4 h in
+      fails (line_ok t) (λ ok. by_test (is_new t) (λ y. omega (arith, z, (new_is t ok y).first_tab)) (λ f. omega (arith, z, old_is t ok f)))
 
-    module _ (other : eqb (get_or t 4 0) lf ≡ false) where
-      -- what is not of the old form is of the new one or of none
-      must_be_new : line_ok t ≡ true → is_new t ≡ true
-      must_be_new e = by_test (is_new t) (λ y. y) (λ f. absurd (true_not_false (eq-eqb (get_or t 4 0) lf (old_is t e f)) other))
+  module _ (id : ℕ) (read : below 65536 (word_by capital_of t 0) ≡ Some id) where
+    pub id_there : id ≡ id_in t
+    id_there = sym (below_some 65536 _ id read).1
 
-      pub head_neither : eqb (get_or t 4 0) tab ≡ false → HeadOf t false false 0 5 0 0
-      unfolding is_new
-      head_neither f = no_head (fails (line_ok t) (λ e. true_not_false (must_be_new e) f))
+    pub head_no_word : 0x4000 ≤ id → line_ok t ≡ false
+    head_no_word h = fails (line_ok t) (λ ok. let s : id_in t < 0x4000 = line_id t ok in omega (arith, id_there))
+
+    module _ (small : id < 0x4000) where
+      small_in : id_in t < 0x4000
+      small_in = rw id_there at small
+
+      pub head_old : get_or t 4 0 ≡ lf → HeadOf t id (take (length t - 5) (drop 5 t)) × (is_new t ≡ false)
+      head_old here =
+          let f : is_new t ≡ false = old_form t small_in here in (
+            record {
+              ok = line_old t small_in here;
+              id_is = id_there;
+              rest_is = rest_cut 5 (sym (ap length (is_old t f) ∙ length_old (id_in t)));
+            },
+            f,
+          )
+
+      pub head_neither : (get_or t 4 0 ≡ lf → ⊥) → (get_or t 4 0 ≡ tab → ⊥) → line_ok t ≡ false
+      head_neither n m = fails (line_ok t) (λ ok. by_test (is_new t) (λ y. m (new_is t ok y).first_tab) (λ f. n (old_is t ok f)))
 
 -- a tab after the ID stands within the text
 pub five_long : (t : List ℕ) → get_or t 4 0 ≡ tab → 5 ≤ length t
@@ -338,45 +334,43 @@ module _ (t : List ℕ) (first : get_or t 4 0 ≡ tab) (end : ℕ) (found : end 
   tells : line_ok t ≡ true → NewIs t
   tells e = new_is t e is_new_here
 
-  pub head_no_name : name_ok (take (end - 5) (drop 5 t)) ≡ false → HeadOf t false false 0 5 0 0
-  head_no_name f = no_head t (fails (line_ok t) (λ e. true_not_false (tells e).name_ok_lem (ap name_ok (sym name_there) ∙ f)))
+  pub head_no_name : name_ok (take (end - 5) (drop 5 t)) ≡ false → line_ok t ≡ false
+  head_no_name f = fails (line_ok t) (λ e. true_not_false (tells e).name_ok_lem (ap name_ok (sym name_there) ∙ f))
 
-  module _ (named : name_ok (take (end - 5) (drop 5 t)) ≡ true) where
-    pub head_no_sum : 65536 ≤ word_by capital_of t (end + 1) → HeadOf t false false 0 5 0 0
-    head_no_sum h = no_head t (fails (line_ok t) (λ e. let s : sum_in t < 65536 = (tells e).sum_small in omega (arith, sum_there)))
+  pub head_no_sum : below 65536 (word_by capital_of t (end + 1)) ≡ None → line_ok t ≡ false
+  head_no_sum h = fails (line_ok t) (λ e. let s : sum_in t < 65536 = (tells e).sum_small in omega (arith, below_none 65536 _ h, sum_there))
 
-    module _ (sum : ℕ) (is : sum ≡ word_by capital_of t (end + 1)) (small_sum : word_by capital_of t (end + 1) < 65536) where
-      lf_at : line_ok t ≡ true → get_or t (end + 5) 0 ≡ lf
-      lf_at e =
-          let place : end + 5 ≡ 5 + length (name_in t) + 1 + 4 = omega (arith, ends) in
-          ap (λ n. get_or t n 0) place ∙ (tells e).end_here
+  pub head_no_end : eqb (get_or t (end + 5) 0) lf ≡ false → line_ok t ≡ false
+  head_no_end f =
+      let place : end + 5 ≡ 5 + length (name_in t) + 1 + 4 = omega (arith, ends) in
+      fails (line_ok t) (λ e. true_not_false (eq-eqb (get_or t (end + 5) 0) lf (ap (λ n. get_or t n 0) place ∙ (tells e).end_here)) f)
 
-      pub head_no_end : eqb (get_or t (end + 5) 0) lf ≡ false → HeadOf t false false 0 5 0 0
-      head_no_end f = no_head t (fails (line_ok t) (λ e. true_not_false (eq-eqb (get_or t (end + 5) 0) lf (lf_at e)) f))
+  module _ (named : name_ok (take (end - 5) (drop 5 t)) ≡ true) (sum : ℕ) (is : below 65536 (word_by capital_of t (end + 1)) ≡ Some sum) (e : eqb (get_or t (end + 5) 0) lf ≡ true) where
+    lf_there : get_or t (end + 5) 0 ≡ lf
+    lf_there = eqb-true (get_or t (end + 5) 0) lf e
 
-      pub head_new : eqb (get_or t (end + 5) 0) lf ≡ true → (id : ℕ) → id ≡ word_by capital_of t 0 → id < 0x4000 → HeadOf t true true id end sum (end + 6)
-      head_new e id same small =
-          let last : get_or t (end + 5) 0 ≡ lf = eqb-true (get_or t (end + 5) 0) lf e in
-          let short : end + 5 < length t = inside t (end + 5) lf last (omega arith) in
-          let place : end + 5 ≡ 5 + length (name_in t) + 1 + 4 = omega (arith, ends) in
-          let parts : NewIs t = record {
-            first_tab = first;
-            name_ok_lem = ap name_ok (sym name_there) ∙ named;
-            sum_small = rw sum_there at small_sum;
-            next_tab = ap (λ n. get_or t n 0) ends ∙ tab_there (omega arith);
-            end_here = ap (λ n. get_or t n 0) (sym place) ∙ last;
-          } in
+    -- LF stands within the text
+    pub end_inside : end + 6 ≤ length t
+    end_inside = let short : end + 5 < length t = inside t (end + 5) lf lf_there (omega arith) in omega arith
+
+    pub head_new : (id : ℕ) → id ≡ id_in t → id < 0x4000 → HeadOf t id (take (length t - (end + 6)) (drop (end + 6) t)) × LabelOf t (take (end - 5) (drop 5 t)) sum
+    head_new id same small =
+        let short : end + 6 ≤ length t = end_inside in
+        let place : end + 5 ≡ 5 + length (name_in t) + 1 + 4 = omega (arith, ends) in
+        let parts : NewIs t = record {
+          first_tab = first;
+          name_ok_lem = ap name_ok (sym name_there) ∙ named;
+          sum_small = rw sum_there at (below_some 65536 _ sum is).0;
+          next_tab = ap (λ n. get_or t n 0) ends ∙ tab_there (omega arith);
+          end_here = ap (λ n. get_or t n 0) (sym place) ∙ lf_there;
+        } in (
           record {
-            test = sym (line_new t (rw same at small) parts);
-            form = λ q. sym is_new_here;
-            id_is = λ q. same;
-            size_is = λ q. sym (ap length (is_new_lem t is_new_here) ∙ (length_new (id_in t) (name_in t) (sum_in t) ∙ omega (arith, ends)));
-            size_in = omega arith;
-            end_from = end_low;
-            end_in = λ q y. end_high;
-            name_is = λ q y. name_there;
-            sum_is = λ q y. is ∙ sum_there;
-          }
+            ok = line_new t (rw same at small) parts;
+            id_is = same;
+            rest_is = rest_cut t (end + 6) (sym (ap length (is_new_lem t is_new_here) ∙ (length_new (id_in t) (name_in t) (sum_in t) ∙ omega (arith, ends))));
+          },
+          record { new = is_new_here; name_is = name_there; sum_is = sym (below_some 65536 _ sum is).1 ∙ sum_there },
+        )
 
 -- ---- the answer of the call
 
@@ -526,3 +520,8 @@ module _ (t : List ℕ) (ok : line_ok t ≡ true) where
 
   pub new_whole : is_new t ≡ true → new_line (id_in t) (name_in t) (sum_in t) ++ rest_in t ≡ t
   new_whole y = ap (λ l. l ++ rest_in t) (sym (is_new_lem t y)) ∙ whole
+
+-- ---- the answer by what it tells
+
+pub id_told_unique : (a b : Result ℕ Refusal) → id_told a ≡ id_told b → a ≡ b
+id_told_unique a b e = answer_unique 0 a b (ap (λ x. x.number) e) (ap (λ x. x.id) e)

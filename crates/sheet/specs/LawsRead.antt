@@ -1,37 +1,38 @@
 -- Laws of the reader: what each test of the code and each turn of its loops comes to, what is stored, and the answers.
-use Rattle.std.specs.Prelude.{ℕ, suc, ◌+◌, ◌-◌, ◌*◌, ◌/◌, ◌%◌, ◌≤◌, ◌<◌, ◌≡◌, refl, Bool, true, ◌&&◌, List, ◌++◌, ltb, length, get_or, set, take, replicate}
-use Rattle.std.proofs.Common.{le_antisymm, zero-add, add-one, arith, ◌∙◌, length-drop, length-append, drop_of_length-le, take_all, take_at, drop-cons, length-take-le}
+use Rattle.std.specs.Prelude.{ℕ, ◌+◌, ◌-◌, ◌*◌, ◌/◌, ◌%◌, ◌≤◌, ◌<◌, ◌≡◌, refl, Some, None, Option, Result, Ok, Bool, true, not, ◌&&◌, List, [], ◌∷◌, ◌++◌, ltb, length, get_or, set, take, replicate}
+use Rattle.std.specs.Option.{option_eq}
+use Rattle.std.specs.Cmp.Lexicographic.{pointwise}
+use Rattle.std.proofs.Common.{le_antisymm, zero-add, arith, ◌∙◌, length-append, take_at, length-take-le}
 use Rattle.std.proofs.Math.Path.{sym, ap}
 use Rattle.std.proofs.Math.Bool.{false}
 use Rattle.std.proofs.Math.Dec.{eqb}
-use Rattle.std.proofs.Math.ListN.{drop}
 use Rattle.std.proofs.lemmas.List.{length-replicate}
-use borrow.Author.Tests.{eq-eqb, ne_eqb, lt-ltb, le-ltb}
-use Rattle.words.specs.Choice.{pick}
+use borrow.Author.Tests.{eq-eqb, eqb-true, ne_eqb, lt-ltb, le-ltb}
+use Rattle.words.specs.Choice.{pick, below}
 use Rattle.words.specs.Word.{is_word}
 use Rattle.words.specs.Lists.{overlay}
 use Rattle.numerals.specs.Text.{tab, lf}
 use Rattle.numerals.specs.Hex.{capital_of, word_by}
 use Rattle.words.specs.Address.{config_base}
 use Rattle.words.specs.LawsChoice.{pick_true, pick_false, both, first_fails, second_fails, true_not_false}
-use Rattle.words.specs.LawsTests.{fails}
+use Rattle.words.specs.LawsTests.{fails, by_lt}
 use Rattle.words.specs.LawsLists.{every_none, every_more, every_no, get_d_past, same_entries, length_overlay, overlay_inside, overlay_none, overlay_more}
 use Rattle.words.specs.LawsWord.{words_each}
 use Rattle.device.specs.declared.Device.{Device}
-use Rattle.device.specs.Record.{most_words, device_ok, fits}
+use Rattle.device.specs.Record.{most_words, device_ok, fits, record_number}
 use Rattle.device.specs.Memory.{reading_tail, reading_ok}
-use Rattle.device.specs.LawsRecord.{rules_lem}
+use Rattle.device.specs.LawsRecord.{Rules, keeps, breaks, judged_good, judged_bad as record_bad}
 use Rattle.table.specs.Table.{name_ok}
-use Rattle.judge.specs.declared.Sum.{Sum}
-use Rattle.judge.specs.Checksum.{checksum_of, summed}
-use Rattle.judge.specs.LawsChecksum.{summed_0}
-use Rattle.sheet.specs.FirstLine.{same_text, id_in, is_new, line_in, line_ok, rest_in, first_line}
+use Rattle.table.specs.LawsLine.{below_low, below_high, below_none, below_some}
+use Rattle.refusal.specs.declared.Refusal.{Refusal}
+use Rattle.judge.specs.Checksum.{checksum_of, summed, sum_told}
+use Rattle.judge.specs.LawsChecksum.{sum_there}
+use Rattle.sheet.specs.FirstLine.{same_text, id_in, is_new, line_ok, rest_in}
 use Rattle.sheet.specs.Sheet.{digits_at, body_words, body_ok, words_in, sheet_ok, name_holds, sheet_number, read_number, read_buffer}
-use Rattle.sheet.specs.LawsStands.{same_equal}
-use Rattle.sheet.specs.LawsFirstLine.{HeadOf, first_given, first_refused}
+use Rattle.sheet.specs.LawsFirstLine.{HeadOf, LabelOf}
 use Rattle.sheet.specs.LawsBody.{length_body_words, word_in, body_sound}
 use Rattle.sheet.specs.LawsPlaces.{field_ok, fields_ok, sheet_line_ok, lines_ok, places_ok, places_body}
-use Rattle.sheet.specs.LawsSheet.{read_line_1, read_fits, read_sound, body_holds, taken, of_taken, of_other_name, of_other_sum, old_name, old_sum, new_name, new_sum}
+use Rattle.sheet.specs.LawsSheet.{read_line_1, read_fits, read_sound, taken, of_taken, of_other_name, of_other_sum, old_name, old_sum, new_name, new_sum}
 
 -- ---- the tests as the code makes them
 
@@ -39,14 +40,37 @@ use Rattle.sheet.specs.LawsSheet.{read_line_1, read_fits, read_sound, body_holds
 pub byte_past : (t : List ℕ) (at c : ℕ) → length t ≤ at → 0 < c → false ≡ eqb (get_or t at 0) c
 byte_past t at c h p = sym (ne_eqb (get_or t at 0) c (λ e. let z : get_or t at 0 ≡ 0 = get_d_past t at h in omega arith))
 
-module _ (t : List ℕ) (at : ℕ) where
-  pub field_no_tab : eqb (get_or t at 0) tab ≡ false → field_ok t at ≡ false
-  unfolding field_ok
-  field_no_tab e = first_fails (eqb (get_or t at 0) tab) (is_word (word_by capital_of t (at + 1))) e
+not_true : (b : Bool) → true ≡ not b → b ≡ false
+not_true true e = e
+not_true false e = refl
 
-  pub field_word : eqb (get_or t at 0) tab ≡ true → field_ok t at ≡ ltb (word_by capital_of t (at + 1)) 0x4000
+not_false : (b : Bool) → false ≡ not b → b ≡ true
+not_false true e = refl
+not_false false e = e
+
+-- a number of four digits held against an address
+module _ (w address : ℕ) (read : Option ℕ) (e : read ≡ below 65536 w) where
+  pub address_no : address < 65536 → true ≡ not (option_eq eqb read (Some address)) → w ≡ address → ⊥
+  address_no h n q =
+      let s : below 65536 w ≡ Some address = below_low 65536 w (rw q h) ∙ ap Some q in
+      let same : option_eq eqb read (Some address) ≡ eqb address address = ap (λ o. option_eq eqb o (Some address)) (e ∙ s) in
+      true_not_false (same ∙ eq-eqb address address refl) (not_true _ n)
+
+  pub address_is : false ≡ not (option_eq eqb read (Some address)) → w ≡ address
+  address_is n =
+      let same : option_eq eqb (below 65536 w) (Some address) ≡ true = ap (λ o. option_eq eqb o (Some address)) (sym e) ∙ not_false _ n in
+      by_lt w 65536
+      (λ h. eqb-true w address (ap (λ o. option_eq eqb o (Some address)) (sym (below_low 65536 w h)) ∙ same))
+      (λ h. absurd (true_not_false same (ap (λ o. option_eq eqb o (Some address)) (below_high 65536 w h))))
+
+module _ (t : List ℕ) (at : ℕ) where
+  pub field_no_word : below 65536 (word_by capital_of t (at + 1)) ≡ None → false ≡ field_ok t at
   unfolding field_ok is_word
-  field_word e = rw e
+  field_no_word e = let h = below_none 65536 _ e in rw (le-ltb (word_by capital_of t (at + 1)) 0x4000 (omega arith)) (sym (second_fails (eqb (get_or t at 0) tab) false refl))
+
+  pub field_word : eqb (get_or t at 0) tab ≡ true → (w : ℕ) → below 65536 (word_by capital_of t (at + 1)) ≡ Some w → ltb w 0x4000 ≡ field_ok t at
+  unfolding field_ok is_word
+  field_word e w s = rw (e, ← (below_some 65536 _ w s).1)
 
 module _ (t : List ℕ) (at address count : ℕ) where
   pub line_no_address : (word_by capital_of t at ≡ address → ⊥) → false ≡ sheet_line_ok t at address count
@@ -54,10 +78,6 @@ module _ (t : List ℕ) (at address count : ℕ) where
   line_no_address n = rw (ne_eqb (word_by capital_of t at) address n)
 
   module _ (e : word_by capital_of t at ≡ address) where
-    pub line_no_fields : fields_ok t (at + 4) count ≡ false → false ≡ sheet_line_ok t at address count
-    unfolding sheet_line_ok
-    line_no_fields f = rw (eq-eqb (word_by capital_of t at) address e, f)
-
     pub line_end : fields_ok t (at + 4) count ≡ true → eqb (get_or t (at + 4 + 5 * count) 0) lf ≡ sheet_line_ok t at address count
     unfolding sheet_line_ok
     line_end f = rw (eq-eqb (word_by capital_of t at) address e, f)
@@ -91,6 +111,11 @@ pub stored_small : (words : ℕ) (t : List ℕ) → reading_ok words (body_words
 unfolding reading_ok
 stored_small words t ok i h = rw (word_in words t i h) at (words_each (words + reading_tail) (body_words words t) ok i)
 
+-- and so they are there
+pub stored_there : (words : ℕ) (t : List ℕ) → reading_ok words (body_words words t) ≡ true → (i : ℕ) → i < words + reading_tail → (at : ℕ) → at ≡ digits_at words i
+    → below 65536 (word_by capital_of t at) ≡ Some (word_by capital_of t (digits_at words i))
+stored_there words t ok i h at e = rw e (below_low 65536 (word_by capital_of t (digits_at words i)) (let s = stored_small words t ok i h in omega arith))
+
 -- where the code looks for word i
 pub digits_low : (words i : ℕ) → i < words → 45 * (i / 8) + 5 * (i % 8) + 5 ≡ digits_at words i
 unfolding digits_at
@@ -102,114 +127,82 @@ digits_high words i h = sym (pick_false (ltb i words) _ _ (le-ltb i words h))
 
 -- ---- two texts compared
 
--- what is left to compare
-module _ (a b : List ℕ) where
-  pub same_long : (length a ≡ length b → ⊥) → false ≡ same_text a b
-  same_long n = sym (fails (same_text a b) (λ e. n (ap length (same_equal a b e))))
-
-  module _ (i : ℕ) (more : same_text a b ≡ same_text (drop i a) (drop i b)) (h : i < length a) (k : i < length b) where
-    opened : same_text (drop i a) (drop i b) ≡ (eqb (get_or a i 0) (get_or b i 0) && same_text (drop (suc i) a) (drop (suc i) b))
-    opened = (λ j. same_text (drop-cons a i 0 h j) (drop-cons b i 0 k j)) ∙ (unfold same_text in refl)
-
-    pub same_no : (get_or a i 0 ≡ get_or b i 0 → ⊥) → false ≡ same_text a b
-    same_no n = sym (more ∙ (opened ∙ first_fails (eqb (get_or a i 0) (get_or b i 0)) _ (ne_eqb (get_or a i 0) (get_or b i 0) n)))
-
-    pub same_on : get_or a i 0 ≡ get_or b i 0 → same_text a b ≡ same_text (drop (i + 1) a) (drop (i + 1) b)
-    same_on e = more ∙ (opened ∙ (rw (eq-eqb (get_or a i 0) (get_or b i 0) e, add-one i)))
-
-  pub same_done : (i : ℕ) → same_text a b ≡ same_text (drop i a) (drop i b) → length a ≤ i → length a ≡ length b → true ≡ same_text a b
-  same_done i more h e = sym (more ∙ (rw (drop_of_length-le a h, drop_of_length-le b (rw e at h)) (unfold same_text in refl)))
+-- the code's comparison is that of the definitions
+same_is : (a b : List ℕ) → pointwise eqb a b ≡ same_text a b
+unfolding same_text
+same_is [] [] = refl
+same_is [] (c ∷ m) = refl
+same_is (c ∷ l) [] = refl
+same_is (c ∷ l) (b ∷ m) = ap (λ t. eqb c b && t) (same_is l m)
 
 -- ---- the answers
-
--- the rest of a text, as the code cuts it
-module _ (t : List ℕ) (size : ℕ) where
-  rest_of : take (length t - size) (drop size t) ≡ drop size t
-  rest_of = take_all (length t - size) (drop size t) (rw length-drop (omega arith))
-
-  rest_cut : size ≡ length (line_in t) → take (length t - size) (drop size t) ≡ rest_in t
-  unfolding rest_in
-  rest_cut e = rest_of ∙ ap (λ n. drop n t) e
 
 module _ (d : Device) (name t : List ℕ) where
   judged_bad : sheet_ok d t ≡ false → 14 ≡ sheet_number d name t
   unfolding sheet_number pick
   judged_bad f = rw f
 
-module _ (d : Device) (name t : List ℕ) (ok new : Bool) (id end sum size : ℕ) (h : HeadOf t ok new id end sum size) where
-  pub text_no_line : ok ≡ false → 14 ≡ sheet_number d name t
-  text_no_line f = judged_bad d name t (fails (sheet_ok d t) (λ e. true_not_false (h.test ∙ read_line_1 d t e) f))
+  pub text_no_line : line_ok t ≡ false → 14 ≡ sheet_number d name t
+  text_no_line f = judged_bad (fails (sheet_ok d t) (λ e. true_not_false (read_line_1 d t e) f))
 
-  module _ (good : ok ≡ true) where
+  module _ (id : ℕ) (rest : List ℕ) (h : HeadOf t id rest) where
     pub text_no_fit : fits d id ≡ false → 14 ≡ sheet_number d name t
-    text_no_fit f = judged_bad d name t (fails (sheet_ok d t) (λ e. true_not_false (ap (fits d) (h.id_is good) ∙ read_fits d t e) f))
+    text_no_fit f = judged_bad (fails (sheet_ok d t) (λ e. true_not_false (ap (fits d) h.id_is ∙ read_fits d t e) f))
 
-    module _ (sound : device_ok d ≡ true) where
-      body_is : places_ok d.words (take (length t - size) (drop size t)) ≡ body_ok d.words (rest_in t)
-      body_is = ap (places_ok d.words) (rest_cut t size (h.size_is good)) ∙ places_body d sound (rest_in t)
+    module _ (sound : Rules d) where
+      body_is : places_ok d.words rest ≡ body_ok d.words rest
+      body_is = places_body d (keeps d sound) rest
 
-      pub text_no_body : places_ok d.words (take (length t - size) (drop size t)) ≡ false → 14 ≡ sheet_number d name t
-      text_no_body f = judged_bad d name t (unfold sheet_ok in second_fails (line_ok t && fits d (id_in t)) (body_ok d.words (rest_in t)) (sym body_is ∙ f))
+      pub text_no_body : places_ok d.words rest ≡ false → 14 ≡ sheet_number d name t
+      text_no_body f =
+          judged_bad (unfold sheet_ok in second_fails (line_ok t && fits d (id_in t)) (body_ok d.words (rest_in t)) (ap (body_ok d.words) (sym h.rest_is) ∙ (sym body_is ∙ f)))
 
-      module _ (fit : fits d id ≡ true) (body : places_ok d.words (take (length t - size) (drop size t)) ≡ true) where
+      module _ (fit : fits d id ≡ true) (body : places_ok d.words rest ≡ true) where
+        pub text_body : body_ok d.words rest ≡ true
+        text_body = sym body_is ∙ body
+
         pub text_good : sheet_ok d t ≡ true
         unfolding sheet_ok
         text_good =
             both (line_ok t && fits d (id_in t)) (body_ok d.words (rest_in t))
-            (both (line_ok t) (fits d (id_in t)) (sym h.test ∙ good) (ap (fits d) (sym (h.id_is good)) ∙ fit)) (sym body_is ∙ body)
+            (both (line_ok t) (fits d (id_in t)) h.ok (ap (fits d) (sym h.id_is) ∙ fit)) (ap (body_ok d.words) (sym h.rest_is) ∙ text_body)
 
-        pub text_old : new ≡ false → 0 ≡ sheet_number d name t
-        text_old f =
-            let o : is_new t ≡ false = sym (h.form good) ∙ f in
-            sym (of_taken d name t (record { ok = text_good; named = old_name d name t o; summed = old_sum d name t o }))
+        pub text_old : is_new t ≡ false → 0 ≡ sheet_number d name t
+        text_old o = sym (of_taken d name t (record { ok = text_good; named = old_name d name t o; summed = old_sum d name t o }))
 
-        pub text_new : new ≡ true → HeadOf t true true id end sum size
-        text_new y = rw (good, y) at h
+        -- the name and the sum of the new form
+        module _ (label : List ℕ) (sum : ℕ) (l : LabelOf t label sum) where
+          named : name_holds name t ≡ pointwise eqb label name
+          named = new_name d name t l.new ∙ (ap (λ n. same_text n name) (sym l.name_is) ∙ sym (same_is label name))
 
--- the name and the sum
-module _ (d : Device) (name t : List ℕ) (id end sum size : ℕ) (h : HeadOf t true true id end sum size) (good : sheet_ok d t ≡ true) where
-  is : is_new t ≡ true
-  is = sym (h.form refl)
+          pub text_18 : true ≡ not (pointwise eqb label name) → 18 ≡ sheet_number d name t
+          text_18 n = sym (of_other_name d name t text_good (named ∙ not_true _ n))
 
-  pub fields_end_in : end ≤ length t
-  fields_end_in = h.end_in refl refl
+          module _ (e : false ≡ not (pointwise eqb label name)) (own : ℕ) (o : own ≡ checksum_of d (body_words d.words rest)) where
+            own_is : own ≡ checksum_of d (words_in d.words t)
+            unfolding words_in
+            own_is = o ∙ ap (λ b. checksum_of d (body_words d.words b)) h.rest_is
 
-  -- the other lines, as the code cuts them
-  pub fields_body : body_ok d.words (take (length t - size) (drop size t)) ≡ true
-  fields_body = ap (body_ok d.words) (rest_cut t size (h.size_is refl)) ∙ body_holds d t good
+            pub text_19 : (own ≡ sum → ⊥) → 19 ≡ sheet_number d name t
+            text_19 n =
+                sym (of_other_sum d name t text_good (named ∙ not_false _ e)
+                (new_sum d name t l.new ∙ ne_eqb _ _ (λ q. n (own_is ∙ (sym q ∙ sym l.sum_is)))))
 
-  module _ (same : Bool) (s : same ≡ same_text (take (end - 5) (drop 5 t)) name) where
-    named : name_holds name t ≡ same
-    named = new_name d name t is ∙ (ap (λ n. same_text n name) (sym (h.name_is refl refl)) ∙ sym s)
-
-    pub fields_18 : same ≡ false → 18 ≡ sheet_number d name t
-    fields_18 f = sym (of_other_name d name t good (named ∙ f))
-
-    module _ (y : same ≡ true) (own : ℕ) (o : own ≡ checksum_of d (body_words d.words (take (length t - size) (drop size t)))) where
-      own_is : own ≡ checksum_of d (words_in d.words t)
-      unfolding words_in
-      own_is = o ∙ ap (λ b. checksum_of d (body_words d.words b)) (rest_cut t size (h.size_is refl))
-
-      pub fields_19 : (own ≡ sum → ⊥) → 19 ≡ sheet_number d name t
-      fields_19 n =
-          sym (of_other_sum d name t good (named ∙ y)
-          (new_sum d name t is ∙ ne_eqb _ _ (λ e. n (own_is ∙ (sym e ∙ sym (h.sum_is refl refl))))))
-
-      pub fields_0 : own ≡ sum → 0 ≡ sheet_number d name t
-      fields_0 e =
-          sym (of_taken d name t (record {
-            ok = good;
-            named = named ∙ y;
-            summed = new_sum d name t is ∙ eq-eqb _ _ (sym (h.sum_is refl refl) ∙ (sym e ∙ own_is));
-          }))
+            pub text_0 : own ≡ sum → 0 ≡ sheet_number d name t
+            text_0 q =
+                sym (of_taken d name t (record {
+                  ok = text_good;
+                  named = named ∙ not_false _ e;
+                  summed = new_sum d name t l.new ∙ eq-eqb _ _ (sym l.sum_is ∙ (sym q ∙ own_is));
+                }))
 
 -- words stored aside, in a buffer of the most words
 abbrev pub longest_reading : ℕ
 longest_reading = most_words + reading_tail
 
-module _ (d : Device) (sound : device_ok d ≡ true) where
+module _ (d : Device) (sound : Rules d) where
   pub aside_room : d.words + reading_tail ≤ length (replicate {A = ℕ} longest_reading 0)
-  aside_room = let few : d.words ≤ most_words = (rules_lem d sound).most in rw (length-replicate {A = ℕ} longest_reading 0) (omega arith)
+  aside_room = let few : d.words ≤ most_words = sound.most in rw (length-replicate {A = ℕ} longest_reading 0) (omega arith)
 
   pub aside_long : length (take (d.words + reading_tail) (replicate {A = ℕ} longest_reading 0)) ≡ d.words + reading_tail
   aside_long = length-take-le (d.words + reading_tail) (replicate {A = ℕ} longest_reading 0) aside_room
@@ -225,10 +218,10 @@ module _ (d : Device) (sound : device_ok d ≡ true) where
     stored_long = length-take-le (d.words + reading_tail) (words ++ rest) stored_within
 
     -- and their checksum
-    pub sum_of_stored : (s : Sum) → s ≡ summed d (take (d.words + reading_tail) (words ++ rest)) → s.sum ≡ checksum_of d (body_words d.words body)
-    sum_of_stored s e =
+    pub sum_of_stored : (r : Result ℕ Refusal) → sum_told r ≡ summed d (take (d.words + reading_tail) (words ++ rest)) → r ≡ Ok (checksum_of d (body_words d.words body))
+    sum_of_stored r e =
         let these : take (d.words + reading_tail) (words ++ rest) ≡ body_words d.words body = take_at words rest (d.words + reading_tail) count ∙ stored in
-        ap (λ x. x.sum) (e ∙ (ap (summed d) these ∙ summed_0 d (body_words d.words body) sound (body_sound d.words body good)))
+        sum_there d (body_words d.words body) (keeps d sound) (body_sound d.words body good) r (e ∙ ap (summed d) these)
 
 -- what a call leaves: its number and the buffer
 abbrev pub ReadBy : Device → (name text buffer : List ℕ) → (number : ℕ) → List ℕ → Type 0
@@ -239,15 +232,18 @@ module _ (d : Device) (name t b : List ℕ) where
   unfolding read_number read_buffer pick
   judged_13 f = (rw f, rw f)
 
-  pub read_no_record : device_ok d ≡ false → ReadBy d name t b 13 b
-  read_no_record f = judged_13 (first_fails (device_ok d) (name_ok name) f)
+  pub read_no_record : (n : ℕ) → 0 < n → n ≡ record_number d → ReadBy d name t b n b
+  read_no_record n h e =
+      let bad : Rules d → ⊥ = λ r. let z : 0 ≡ record_number d = judged_good d r in omega arith in
+      let same : n ≡ 13 = e ∙ sym (record_bad d bad) in
+      rw same (judged_13 (first_fails (device_ok d) (name_ok name) (breaks d bad)))
 
   pub read_no_name : name_ok name ≡ false → ReadBy d name t b 13 b
   read_no_name f = judged_13 (second_fails (device_ok d) (name_ok name) f)
 
-  module _ (sound : device_ok d ≡ true) (named : name_ok name ≡ true) where
+  module _ (sound : Rules d) (named : name_ok name ≡ true) where
     good : (device_ok d && name_ok name) ≡ true
-    good = both (device_ok d) (name_ok name) sound named
+    good = both (device_ok d) (name_ok name) (keeps d sound) named
 
     pub read_no_room : (length b ≡ d.words + reading_tail → ⊥) → ReadBy d name t b 12 b
     unfolding read_number read_buffer pick
@@ -260,36 +256,24 @@ module _ (d : Device) (name t b : List ℕ) where
       unfolding read_number pick
       number_is = rw (good, eq-eqb (length b) (d.words + reading_tail) room)
 
-      pub read_refused : (number : ℕ) → number ≡ sheet_number d name t → (number ≡ 0 → ⊥) → ReadBy d name t b number b
+      pub read_refused : (number : ℕ) → number ≡ sheet_number d name t → 0 < number → ReadBy d name t b number b
       unfolding read_buffer
-      read_refused number e n = (e ∙ sym number_is, sym (pick_false _ _ _ (ne_eqb (read_number d name t b) 0 (λ z. n (e ∙ (sym number_is ∙ z))))))
+      read_refused number e h = (e ∙ sym number_is, sym (pick_false _ _ _ (ne_eqb (read_number d name t b) 0 (λ z. let same : number ≡ 0 = e ∙ (sym number_is ∙ z) in omega arith))))
 
-      module _ (number : ℕ) (e : number ≡ sheet_number d name t) (z : number ≡ 0) where
-        pub read_good : sheet_ok d t ≡ true
-        read_good = (taken d name t (sym e ∙ z)).ok
+      -- the lines that are stored
+      module _ (e : 0 ≡ sheet_number d name t) (lines : List ℕ) (cut : lines ≡ rest_in t) where
+        read_good : sheet_ok d t ≡ true
+        read_good = (taken d name t (sym e)).ok
 
-        -- the lines that are stored, as the code cuts them
-        module _ (ok new : Bool) (id end sum size : ℕ) (h : HeadOf t ok new id end sum size) where
-          cut : take (length t - size) (drop size t) ≡ rest_in t
-          cut = rest_cut t size (h.size_is (h.test ∙ read_line_1 d t read_good))
+        pub read_lines : reading_ok d.words (body_words d.words lines) ≡ true
+        read_lines = ap (λ x. reading_ok d.words (body_words d.words x)) cut ∙ (unfold words_in in read_sound d t read_good)
 
-          pub read_lines : reading_ok d.words (body_words d.words (take (length t - size) (drop size t))) ≡ true
-          read_lines = ap (λ x. reading_ok d.words (body_words d.words x)) cut ∙ (unfold words_in in read_sound d t read_good)
-
-          pub read_all : (after : List ℕ) → after ≡ body_words d.words (take (length t - size) (drop size t)) → ReadBy d name t b 0 after
-          unfolding read_buffer words_in
-          read_all after f = (
-            sym z ∙ (e ∙ sym number_is),
-            f ∙ (ap (body_words d.words) cut ∙ sym (pick_true _ _ _ (eq-eqb (read_number d name t b) 0 (number_is ∙ (sym e ∙ z))))),
-          )
-
--- line 1 by itself
-module _ (t : List ℕ) (ok new : Bool) (id end sum size : ℕ) (h : HeadOf t ok new id end sum size) where
-  pub id_read : ok ≡ true → record { number = 0; id = id } ≡ first_line t
-  id_read y = first_given t (sym h.test ∙ y) id (h.id_is y)
-
-  pub id_refused : ok ≡ false → record { number = 14; id = 0 } ≡ first_line t
-  id_refused f = first_refused t (sym h.test ∙ f)
+        pub read_all : (after : List ℕ) → after ≡ body_words d.words lines → ReadBy d name t b 0 after
+        unfolding read_buffer words_in
+        read_all after f = (
+          e ∙ sym number_is,
+          f ∙ (ap (body_words d.words) cut ∙ sym (pick_true _ _ _ (eq-eqb (read_number d name t b) 0 (number_is ∙ sym e)))),
+        )
 
 -- ---- the turns of the loops
 
@@ -307,9 +291,6 @@ module _ (t : List ℕ) (at : ℕ) where
     unfolding fields_ok
     fields_no count h f = sym (every_no count (λ j. field_ok t (at + 5 * j)) k h f)
 
-    pub fields_end : (count : ℕ) → count ≤ k → k ≤ count → fields_ok t at k ≡ true → true ≡ fields_ok t at count
-    fields_end count p q e = sym (rw (le_antisymm q p) at e)
-
 module _ (t : List ℕ) where
   pub lines_none : lines_ok t 0 ≡ true
   unfolding lines_ok
@@ -323,9 +304,6 @@ module _ (t : List ℕ) where
     pub lines_no : (lines : ℕ) → k < lines → sheet_line_ok t (45 * k) (8 * k) 8 ≡ false → false ≡ lines_ok t lines
     unfolding lines_ok
     lines_no lines h f = sym (every_no lines (λ j. sheet_line_ok t (45 * j) (8 * j) 8) k h f)
-
-    pub lines_end : (lines : ℕ) → lines ≤ k → k ≤ lines → lines_ok t k ≡ true → true ≡ lines_ok t lines
-    lines_end lines p q e = sym (rw (le_antisymm q p) at e)
 
 -- the words stored so far
 unfoldable pub stored : (words : ℕ) (text : List ℕ) (count : ℕ) (buffer : List ℕ) → List ℕ

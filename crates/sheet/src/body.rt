@@ -8,21 +8,19 @@ ghost use Rattle.sheet.specs.LawsPlaces.{field_ok, fields_ok, sheet_line_ok, lin
 use crate::first::byte_is;
 use crate::{LF, TAB};
 use device::READING_TAIL;
+use numerals::hex;
 use words::{CONFIG_BASE, WORD_LIMIT};
 
 // Whether the lines have the length of a sheet's and everything in them stands at its place.
+#[tactic(auto, using(words::specs::LawsChoice::tests), unfolding(crate::specs::LawsPlaces::places_ok))]
 pub(crate) fn places_ok(words: u16, text: &[u8]) -> bool
     requires { words ≤ most_words }
     ensures { result ≡ places_ok words text.now }
 {
-    let lines = (words as usize) / 8;
-    if text.len() != 45 * lines + 50 {
-        return false;
-    }
-    if lines_ok(text, lines) {} else {
-        return false;
-    }
-    line_ok(text, 45 * lines, CONFIG_BASE, READING_TAIL)
+    let lines = words as usize / 8;
+    text.len() == 45 * lines + 50
+        && lines_ok(text, lines)
+        && line_ok(text, 45 * lines, CONFIG_BASE, READING_TAIL)
 }
 
 // The program lines, each with its address.
@@ -30,28 +28,24 @@ fn lines_ok(text: &[u8], lines: usize) -> bool
     requires { (lines ≤ most_program_lines) × (45 * lines ≤ length text.now) }
     ensures { result ≡ lines_ok text.now lines }
 {
-    let mut k = 0;
-    while k < lines {
-        if line_ok(text, 45 * k, (8 * k) as u16, 8) {} else {
+    for k in 0..lines {
+        if !line_ok(text, 45 * k, (8 * k) as u16, 8) {
             return false;
         }
-        k += 1;
     }
     true
 }
 
 // An address, so many words, LF.
+#[tactic(auto, using(words::specs::LawsChoice::tests), unfolding(crate::specs::LawsPlaces::sheet_line_ok))]
 fn line_ok(text: &[u8], at: usize, address: u16, count: usize) -> bool
     requires { at + 5 + 5 * count ≤ length text.now }
     ensures { result ≡ sheet_line_ok text.now at address count }
 {
-    if numerals::hex::capital_word(text, at) != address as u32 {
+    if hex::capital_word(text, at) != Some(address) {
         return false;
     }
-    if fields_ok(text, at + 4, count) {} else {
-        return false;
-    }
-    byte_is(text, at + 4 + 5 * count, LF)
+    fields_ok(text, at + 4, count) && byte_is(text, at + 4 + 5 * count, LF)
 }
 
 // So many words, a tab before each.
@@ -59,25 +53,24 @@ fn fields_ok(text: &[u8], at: usize, count: usize) -> bool
     requires { at + 5 * count ≤ length text.now }
     ensures { result ≡ fields_ok text.now at count }
 {
-    let mut k = 0;
-    while k < count {
-        if field_ok(text, at + 5 * k) {} else {
+    for k in 0..count {
+        if !field_ok(text, at + 5 * k) {
             return false;
         }
-        k += 1;
     }
     true
 }
 
 // A tab and a word.
+#[tactic(auto, using(words::specs::LawsChoice::tests), unfolding(crate::specs::LawsPlaces::field_ok, words::specs::Word::is_word))]
 fn field_ok(text: &[u8], at: usize) -> bool
     requires { at < length text.now }
     ensures { result ≡ field_ok text.now at }
 {
-    if byte_is(text, at, TAB) {} else {
+    let Some(word) = hex::capital_word(text, at + 1) else {
         return false;
-    }
-    numerals::hex::capital_word(text, at + 1) < WORD_LIMIT as u32
+    };
+    byte_is(text, at, TAB) && word < WORD_LIMIT
 }
 
 // Stores the words of lines that were judged.
@@ -85,20 +78,20 @@ pub(crate) fn store(program: usize, text: &[u8], buffer: &mut [u16])
     requires { (program ≤ most_words) × (length buffer.old ≡ program + reading_tail) × (reading_ok program (body_words program text.now) ≡ true) }
     ensures { buffer.new ≡ body_words program text.now }
 {
-    let mut i = 0;
-    while i < buffer.len() {
-        buffer[i] = numerals::hex::capital_word(text, digits_at(program, i)) as u16;
-        i += 1;
+    for (i, word) in buffer.iter_mut().enumerate() {
+        *word = hex::capital_word(text, digits_at(program, i)).unwrap();
     }
 }
 
 // Where the digits of a word stand.
+#[tactic(auto, using(crate::specs::LawsRead::digits_low, crate::specs::LawsRead::digits_high))]
 fn digits_at(program: usize, i: usize) -> usize
     requires { (program ≤ most_words) × (i < program + reading_tail) }
     ensures { result ≡ digits_at program i }
 {
     if i < program {
-        return 45 * (i / 8) + 5 * (i % 8) + 5;
+        45 * (i / 8) + 5 * (i % 8) + 5
+    } else {
+        45 * (program / 8) + 5 * (i - program) + 5
     }
-    45 * (program / 8) + 5 * (i - program) + 5
 }

@@ -1,89 +1,74 @@
 // Line 1 of a sheet, in either form.
-ghost use Rattle.std.specs.Prelude.{◌≡◌, ◌<◌, eqb, get_or};
+ghost use Rattle.std.specs.Prelude.{◌≡◌, false, ◌<◌, MatchOption, eqb, get_or};
 ghost use Rattle.numerals.specs.Text.{tab};
-ghost use Rattle.sheet.specs.FirstLine.{id_in};
-ghost use Rattle.sheet.specs.LawsFirstLine.{HeadOf};
+ghost use Rattle.sheet.specs.FirstLine.{line_ok, is_new, id_in};
+ghost use Rattle.sheet.specs.LawsFirstLine.{HeadOf, LabelOf};
 
 use crate::{LF, TAB};
+use numerals::hex;
 use words::WORD_LIMIT;
 
-// Whether line 1 is of a form, whether of the new one, and its fields: where its name ends, and how long it is.
+// What line 1 tells: an ID, in the new form a name and a sum too; and what stands after it.
 #[derive(Clone, Copy)]
-pub(crate) struct Head {
-    pub ok: bool,
-    pub new: bool,
+pub(crate) struct Head<'a> {
     pub id: u16,
-    pub end: usize,
-    pub sum: u16,
-    pub size: usize,
+    pub label: Option<Label<'a>>,
+    pub rest: &'a [u8],
 }
 
-const NO_LINE: Head = Head {
-    ok: false,
-    new: false,
-    id: 0,
-    end: 5,
-    sum: 0,
-    size: 0,
-};
+#[derive(Clone, Copy)]
+pub(crate) struct Label<'a> {
+    pub name: &'a [u8],
+    pub sum: u16,
+}
 
 // Reads line 1: after an ID that some record can have stands LF in the old form, a tab in the new one.
-pub(crate) fn read_line(text: &[u8]) -> Head
-    ensures { HeadOf text.now result.ok result.new result.id result.end result.sum result.size }
+pub(crate) fn read_line(text: &[u8]) -> Option<Head<'_>>
+    ensures { MatchOption result (line_ok text.now ≡ false) (λ h. HeadOf text.now h.id h.rest.now × MatchOption h.label (is_new text.now ≡ false) (λ l. LabelOf text.now l.name.now l.sum)) }
 {
-    let id = numerals::hex::capital_word(text, 0);
-    if WORD_LIMIT as u32 <= id {
-        return NO_LINE;
+    let id = hex::capital_word(text, 0)?;
+    if WORD_LIMIT <= id {
+        return None;
     }
-    if byte_is(text, 4, LF) {
-        return Head {
-            ok: true,
-            new: false,
-            id: id as u16,
-            end: 5,
-            sum: 0,
-            size: 5,
-        };
+    match text.get(4)? {
+        b'\n' => Some(Head {
+            id,
+            label: None,
+            rest: &text[5..],
+        }),
+        b'\t' => read_fields(text, id),
+        _ => None,
     }
-    if byte_is(text, 4, TAB) {} else {
-        return NO_LINE;
-    }
-    read_fields(text, id as u16)
 }
 
 // The name and the sum after the first tab.
-fn read_fields(text: &[u8], id: u16) -> Head
-    requires { (id ≡ id_in text.now) × (id < 0x4000) × (get_or text.now 4 0 ≡ tab) }
-    ensures { HeadOf text.now result.ok result.new result.id result.end result.sum result.size }
+fn read_fields(text: &[u8], id: u16) -> Option<Head<'_>>
+    requires id { id ≡ id_in text.now }
+    requires word { id < 0x4000 }
+    requires first { get_or text.now 4 0 ≡ tab }
+    ensures { MatchOption result (line_ok text.now ≡ false) (λ h. HeadOf text.now h.id h.rest.now × MatchOption h.label (is_new text.now ≡ false) (λ l. LabelOf text.now l.name.now l.sum)) }
 {
     let end = marks::find(text, 5, text.len(), TAB);
-    if table::is_name(&text[5..end]) {} else {
-        return NO_LINE;
+    let name = &text[5..end];
+    if !table::is_name(name) {
+        return None;
     }
-    let sum = numerals::hex::capital_word(text, end + 1);
-    if 65536 <= sum {
-        return NO_LINE;
+    let sum = hex::capital_word(text, end + 1)?;
+    if !byte_is(text, end + 5, LF) {
+        return None;
     }
-    if byte_is(text, end + 5, LF) {} else {
-        return NO_LINE;
-    }
-    Head {
-        ok: true,
-        new: true,
+    Some(Head {
         id,
-        end,
-        sum: sum as u16,
-        size: end + 6,
-    }
+        label: Some(Label { name, sum }),
+        rest: &text[end + 6..],
+    })
 }
 
 // Whether a byte stands at a place: past the end none does.
+#[tactic(auto, using(crate::specs::LawsRead::byte_past))]
 pub(crate) fn byte_is(text: &[u8], at: usize, byte: u8) -> bool
     requires { 0 < byte }
     ensures { result ≡ eqb (get_or text.now at 0) byte }
 {
-    if at < text.len() {
-        return text[at] == byte;
-    }
-    false
+    text.get(at) == Some(&byte)
 }

@@ -1,126 +1,77 @@
 // The sheet reader: the whole text is judged before the first word is stored.
-ghost use Rattle.std.specs.Prelude.{◌≡◌, true};
-ghost use Rattle.device.specs.Record.{device_ok};
+ghost use Rattle.std.specs.Prelude.{◌≡◌, true, IfOk};
+ghost use Rattle.refusal.specs.Refusal.{number_in};
 ghost use Rattle.judge.specs.Checksum.{checksum_of};
-ghost use Rattle.sheet.specs.FirstLine.{same_text, first_line};
-ghost use Rattle.sheet.specs.Sheet.{body_words, body_ok, sheet_ok, sheet_number, read_number, read_buffer};
-ghost use Rattle.sheet.specs.LawsFirstLine.{HeadOf};
+ghost use Rattle.sheet.specs.FirstLine.{first_line, id_told, rest_in};
+ghost use Rattle.sheet.specs.Sheet.{body_words, body_ok, sheet_number, read_number, read_buffer};
 
-use crate::Line1;
 use crate::body::{places_ok, store};
-use crate::first::{Head, read_line};
-use device::{Device, MOST_WORDS, READING_TAIL};
+use crate::first::read_line;
+use device::{Device, MOST_WORDS, READING_TAIL, Sound};
+use refusal::Refusal;
 
 // The most words that a reading has.
 const LONGEST_READING: usize = (MOST_WORDS as usize) + READING_TAIL;
 
 // Reads a sheet of either form into a buffer: 13, 12, 14, 18 or 19 where it cannot, and then the buffer stays.
-pub fn read_sheet(d: Device, name: &[u8], text: &[u8], buffer: &mut [u16]) -> u8
-    ensures { (result ≡ read_number d name.now text.now buffer.old) × (buffer.new ≡ read_buffer d name.now text.now buffer.old) }
+pub fn read_sheet(d: Device, name: &[u8], text: &[u8], buffer: &mut [u16]) -> Result<(), Refusal>
+    ensures { (number_in result ≡ read_number d name.now text.now buffer.old) × (buffer.new ≡ read_buffer d name.now text.now buffer.old) }
 {
-    if device::judge(d) != 0 {
-        return 13;
-    }
-    if table::is_name(name) {} else {
-        return 13;
+    let sound = Sound::of(d)?;
+    if !table::is_name(name) {
+        return Err(Refusal::DeviceRecord);
     }
     let program = d.words as usize;
     if buffer.len() != program + READING_TAIL {
-        return 12;
+        return Err(Refusal::BufferLength);
     }
-    let number = judge_text(d, name, text);
-    if number != 0 {
-        return number;
-    }
-    let first = read_line(text);
-    let at = first.size;
-    store(program, &text[at..], buffer);
-    0
+    let lines = judge_text(sound, name, text)?;
+    store(program, lines, buffer);
+    Ok(())
 }
 
-// The ID on line 1 of either form, or 14 where line 1 is of neither.
-pub fn read_id(text: &[u8]) -> Line1
-    ensures { result ≡ first_line text.now }
+// The ID on line 1 of either form; 14 where line 1 is of neither.
+pub fn read_id(text: &[u8]) -> Result<u16, Refusal>
+    ensures { id_told result ≡ first_line text.now }
 {
-    let first = read_line(text);
-    if first.ok {
-        return Line1 {
-            number: 0,
-            id: first.id,
-        };
+    match read_line(text) {
+        Some(first) => Ok(first.id),
+        None => Err(Refusal::Sheet),
     }
-    NO_ID
 }
 
-const NO_ID: Line1 = Line1 { number: 14, id: 0 };
-
-// A sheet under a sound record with this name: 14, 18, 19 or 0.
-fn judge_text(d: Device, name: &[u8], text: &[u8]) -> u8
-    requires { device_ok d ≡ true }
-    ensures { result ≡ sheet_number d name.now text.now }
+// The lines after line 1 of a sheet under a sound record with this name; 14, 18 or 19 where it is none.
+fn judge_text<'a>(sound: Sound, name: &[u8], text: &'a [u8]) -> Result<&'a [u8], Refusal>
+    ensures number { number_in result ≡ sheet_number sound.device name.now text.now }
+    ensures lines { IfOk result (λ lines. lines.now ≡ rest_in text.now) }
 {
-    let first = read_line(text);
-    if first.ok {} else {
-        return 14;
+    let d = sound.device;
+    let Some(first) = read_line(text) else {
+        return Err(Refusal::Sheet);
+    };
+    if !device::fits(d, first.id) || !places_ok(d.words, first.rest) {
+        return Err(Refusal::Sheet);
     }
-    if device::fits(d, first.id) {} else {
-        return 14;
+    if let Some(label) = first.label {
+        if label.name != name {
+            return Err(Refusal::WrongName);
+        }
+        if sum_in(sound, first.rest) != label.sum {
+            return Err(Refusal::WrongSheetSum);
+        }
     }
-    let at = first.size;
-    if places_ok(d.words, &text[at..]) {} else {
-        return 14;
-    }
-    if first.new {
-        return judge_fields(d, name, text, first);
-    }
-    0
-}
-
-// The name and the sum of a sheet in the new form, of which all else is sound: 18, 19 or 0.
-fn judge_fields(d: Device, name: &[u8], text: &[u8], first: Head) -> u8
-    requires { (device_ok d ≡ true) × (HeadOf text.now true true first.id first.end first.sum first.size) × (sheet_ok d text.now ≡ true) }
-    ensures { result ≡ sheet_number d name.now text.now }
-{
-    let end = first.end;
-    let at = first.size;
-    let sum = first.sum;
-    let named = same(&text[5..end], name);
-    let own = sum_in(d, &text[at..]);
-    if named {} else {
-        return 18;
-    }
-    if own != sum {
-        return 19;
-    }
-    0
+    Ok(first.rest)
 }
 
 // The checksum of the words in a sheet's lines. They are stored aside, since a refusal leaves the caller's buffer.
-fn sum_in(d: Device, body: &[u8]) -> u16
-    requires { (device_ok d ≡ true) × (body_ok d.words body.now ≡ true) }
-    ensures { result ≡ checksum_of d (body_words d.words body.now) }
+fn sum_in(sound: Sound, body: &[u8]) -> u16
+    requires { body_ok sound.device.words body.now ≡ true }
+    ensures { result ≡ checksum_of sound.device (body_words sound.device.words body.now) }
 {
+    let d = sound.device;
     let mut words = [0u16; LONGEST_READING];
     let program = d.words as usize;
     let count = program + READING_TAIL;
     store(program, body, &mut words[..count]);
-    let summed = judge::checksum(d, &words[..count]);
-    summed.sum
-}
-
-// Whether two texts are the same.
-fn same(a: &[u8], b: &[u8]) -> bool
-    ensures { result ≡ same_text a.now b.now }
-{
-    if a.len() != b.len() {
-        return false;
-    }
-    let mut i = 0;
-    while i < a.len() {
-        if a[i] != b[i] {
-            return false;
-        }
-        i += 1;
-    }
-    true
+    judge::checksum(d, &words[..count]).unwrap()
 }

@@ -75,16 +75,16 @@ pub record LineRead (line : List ℕ) (name : ℕ) (d : Device) : Type 0 where
 -- ---- numbers below a limit
 
 module _ (limit n : ℕ) where
-  below_low : n < limit → below limit n ≡ Some n
+  pub below_low : n < limit → below limit n ≡ Some n
   below_low h = pick_true (ltb n limit) (Some n) None (lt-ltb n limit h)
 
-  below_high : limit ≤ n → below limit n ≡ None
+  pub below_high : limit ≤ n → below limit n ≡ None
   below_high h = pick_false (ltb n limit) (Some n) None (le-ltb n limit h)
 
-  below_none : below limit n ≡ None → limit ≤ n
+  pub below_none : below limit n ≡ None → limit ≤ n
   below_none e = by_lt n limit (λ h. let z : Some n ≡ None = sym (below_low h) ∙ e in cc) (λ h. h)
 
-  below_some : (k : ℕ) → below limit n ≡ Some k → (n < limit) × (n ≡ k)
+  pub below_some : (k : ℕ) → below limit n ≡ Some k → (n < limit) × (n ≡ k)
   below_some k e =
       by_lt n limit
       (λ h. let z : Some n ≡ Some k = sym (below_low h) ∙ e in (h, cc))

@@ -1,18 +1,13 @@
 -- Each line passed is sound.
-use mathlib.Core.Path.{sym, ◌∙◌}
-use native.Mathlib.Omega.{arith}
-use borrow.Author.Rules.{rules}
-use Rattle.sheet.specs.LawsRead.{lines_none, lines_more, lines_no, lines_end}
+use Rattle.std.proofs.Common.{sym, ◌∙◌}
+use Rattle.sheet.specs.LawsRead.{lines_none, lines_more, lines_no}
 use Rattle.sheet.proofs.body.lines_ok.Goals as goal
 
 pub loop-k-init : goal.loop-k-init
-loop-k-init c = (search rules, lines_none _)
+loop-k-init c = lines_none _
 
-pub returns-else-line_ok : goal.returns-else-line_ok
-returns-else-line_ok c = lines_no _ _ _ c.loop-k-test.true (sym c.line_ok.ensures ∙ c.if-line_ok.false)
+pub returns-then-not-line_ok : goal.returns-then-not-line_ok
+returns-then-not-line_ok c = lines_no _ _ _ c.loop-k-test.true (sym c.line_ok.ensures ∙ c.if-not-line_ok.true)
 
 pub loop-k-preserved : goal.loop-k-preserved
-loop-k-preserved c = (omega arith, lines_more _ _ c.loop-k.invariant.1 (sym c.line_ok.ensures ∙ c.if-line_ok.true))
-
-pub returns : goal.returns
-returns c = lines_end _ _ _ c.loop-k-test.false c.loop-k.invariant.0 c.loop-k.invariant.1
+loop-k-preserved c = lines_more _ _ c.loop-k.invariant (sym c.line_ok.ensures ∙ c.if-not-line_ok.false)

@@ -1,26 +1,17 @@
 -- The name up to the next tab, and the sum after it.
-use mathlib.Core.Path.{sym, ◌∙◌}
-use native.Mathlib.Omega.{arith}
-use Rattle.sheet.specs.LawsFirstLine.{five_long, head_no_name, head_no_sum, head_no_end, head_new}
-use borrow.Author.Rules.{rules}
+use Rattle.std.proofs.Common.{sym, ◌∙◌}
+use Rattle.sheet.specs.LawsFirstLine.{head_no_name, head_no_sum, head_no_end, head_new}
 use Rattle.sheet.proofs.first.read_fields.Goals as goal
 
-pub find-end-requires : goal.find-end-requires
-find-end-requires c = (five_long c.args.text.now c.requires.2, search rules)
+pub returns-then-not-is_name : goal.returns-then-not-is_name
+returns-then-not-is_name c = head_no_name _ c.requires.first _ c.find-end.ensures.place (sym c.is_name.ensures ∙ c.if-not-is_name.true)
 
-pub returns-else-is_name : goal.returns-else-is_name
-returns-else-is_name c = head_no_name _ c.requires.2 _ c.find-end.ensures.0 (sym c.is_name.ensures ∙ c.if-is_name.false)
+pub returns-in_err-sum : goal.returns-in_err-sum
+returns-in_err-sum c = rw c.from_residual.ensures (head_no_sum _ c.requires.first _ c.find-end.ensures.place (sym c.capital_word.ensures ∙ c.in_err-sum.was))
 
-pub returns-then-sum-ge65536 : goal.returns-then-sum-ge65536
-returns-then-sum-ge65536 c = head_no_sum _ c.requires.2 _ c.find-end.ensures.0 (sym c.is_name.ensures
-    ∙ c.if-is_name.true) (omega arith)
-
-pub returns-else-byte_is : goal.returns-else-byte_is
-returns-else-byte_is c = head_no_end _ c.requires.2 _ c.find-end.ensures.0
-    (sym c.is_name.ensures ∙ c.if-is_name.true) _ c.capital_word-sum.ensures
-    (omega arith) (sym c.byte_is.ensures ∙ c.if-byte_is.false)
+pub returns-then-not-byte_is : goal.returns-then-not-byte_is
+returns-then-not-byte_is c = head_no_end _ c.requires.first _ c.find-end.ensures.place (sym c.byte_is.ensures ∙ c.if-not-byte_is.true)
 
 pub returns : goal.returns
-returns c = head_new _ c.requires.2 _ c.find-end.ensures.0
-    (sym c.is_name.ensures ∙ c.if-is_name.true) _ c.capital_word-sum.ensures
-    (omega arith) (sym c.byte_is.ensures ∙ c.if-byte_is.true) _ c.requires.0 c.requires.1
+returns c = head_new _ c.requires.first _ c.find-end.ensures.place (sym c.is_name.ensures ∙ c.if-not-is_name.false) _
+    (sym c.capital_word.ensures ∙ c.in_ok-sum.was) (sym c.byte_is.ensures ∙ c.if-not-byte_is.false) _ c.requires.id c.requires.word

@@ -1,18 +1,23 @@
 -- An ID, and what stands after it.
-use mathlib.Core.Path.{sym, ◌∙◌}
-use native.Mathlib.Omega.{arith}
-use borrow.Author.Tests.{eqb-true}
-use Rattle.sheet.specs.LawsFirstLine.{head_no_id, head_old, head_neither}
+use Rattle.std.proofs.Common.{sym, ◌∙◌, arith}
+use Rattle.std.proofs.lemmas.Bool.{ltb-false}
+use Rattle.sheet.specs.LawsFirstLine.{head_no_id, head_no_word, head_short, id_there, head_old, head_neither}
 use Rattle.sheet.proofs.first.read_line.Goals as goal
 
-pub returns-then-id : goal.returns-then-id
-returns-then-id c = head_no_id _ (omega arith)
+pub returns-in_err-id : goal.returns-in_err-id
+returns-in_err-id c = rw c.from_residual.ensures (head_no_id _ (sym c.capital_word.ensures ∙ c.in_err-id.was))
 
-pub returns-then-byte_is : goal.returns-then-byte_is
-returns-then-byte_is c = head_old _ (omega arith) (sym c.byte_is.ensures ∙ c.if-byte_is.true) _ c.capital_word-id.ensures
+pub returns-then-id-ge-WORD_LIMIT : goal.returns-then-id-ge-WORD_LIMIT
+returns-then-id-ge-WORD_LIMIT c = head_no_word _ _ (sym c.capital_word.ensures ∙ c.in_ok-id.was) c.if-id-ge-WORD_LIMIT.true
 
-pub returns-else-byte_is-2 : goal.returns-else-byte_is-2
-returns-else-byte_is-2 c = head_neither _ (omega arith) (sym c.byte_is.ensures ∙ c.if-byte_is.false) (sym c.byte_is-2.ensures ∙ c.if-byte_is-2.false)
+pub returns-in_err-get : goal.returns-in_err-get
+returns-in_err-get c = rw c.from_residual-in_err-get.ensures (head_short _ (ltb-false _ _ (sym c.in_err-get.ensures.lookup.0)))
 
-pub read_fields-requires : goal.read_fields-requires
-read_fields-requires c = (c.capital_word-id.ensures, omega arith, eqb-true _ _ (sym c.byte_is-2.ensures ∙ c.if-byte_is-2.true))
+pub read_fields-requires-clause-id : goal.read_fields-requires-clause-id
+read_fields-requires-clause-id c = id_there _ _ (sym c.capital_word.ensures ∙ c.in_ok-id.was)
+
+pub returns-in-10 : goal.returns-in-10
+returns-in-10 c = head_old _ _ (sym c.capital_word.ensures ∙ c.in_ok-id.was) (omega arith) (sym (c.in_ok-get.ensures.lookup.3.1 0) ∙ c.in-10.is)
+
+pub returns-in_default : goal.returns-in_default
+returns-in_default c = head_neither _ _ (sym c.capital_word.ensures ∙ c.in_ok-id.was) (omega arith) (λ e. omega (arith, c.in_ok-get.ensures.lookup.3.1 0)) (λ e. omega (arith, c.in_ok-get.ensures.lookup.3.1 0))

@@ -1,9 +1,9 @@
 -- Line 1 is of a form or of none.
-use Rattle.sheet.specs.LawsRead.{id_read, id_refused}
+use Rattle.sheet.specs.LawsFirstLine.{first_given, first_refused}
 use Rattle.sheet.proofs.read.read_id.Goals as goal
 
-pub returns-then-first : goal.returns-then-first
-returns-then-first c = id_read _ _ _ _ _ _ _ c.read_line-first.ensures c.if-first.true
+pub returns-in-None : goal.returns-in-None
+returns-in-None c = first_refused _ c.in-None.ensures
 
-pub returns : goal.returns
-returns c = id_refused _ _ _ _ _ _ _ c.read_line-first.ensures c.if-first.false
+pub returns-in-Some : goal.returns-in-Some
+returns-in-Some c = first_given _ c.in-Some.ensures.0.ok _ c.in-Some.ensures.0.id_is
