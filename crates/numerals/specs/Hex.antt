@@ -23,7 +23,7 @@ capital_of c =
     16)
 
 -- the two readings of a digit: capitals alone, or either case
-unfoldable pub digit_by : (capital : Bool) → ℕ → ℕ
+abbrev pub digit_by : (capital : Bool) → ℕ → ℕ
 digit_by true = capital_of
 digit_by false = digit_of
 

@@ -120,7 +120,6 @@ unfolding capital_of within pick
 no_capital = refl
 
 pub no_digit_by : (capital : Bool) → digit_by capital 0 ≡ 16
-unfolding digit_by
 no_digit_by true = no_capital
 no_digit_by false = no_digit
 

@@ -1,4 +1,5 @@
 // The parts of a line: each begins where the one before it ends, and nothing is stored past the end of the buffer.
+// Buffer and place stay two parameters: as a struct's fields they would need the same bound, and a clause more in each method to keep the buffer the lent one.
 ghost use Rattle.std.specs.Prelude.{[], ◌∷◌, ◌++◌, ◌≤◌};
 ghost use Rattle.numerals.specs.Hex.{word_text};
 ghost use Rattle.print.specs.Print.{decimal_text};
