@@ -20,7 +20,8 @@ use Rattle.hexread.specs.Column.{bad_column, refused_word, word_column, column_o
 use Rattle.hexread.specs.Reader.{most_text, Outcome, refused_at, read_lines, begun, text_read}
 use Rattle.hexread.specs.LawsStand.{FirstBad, first_bad, record_byte}
 use Rattle.hexread.specs.LawsReader.{lines_on, lines_stop, lines_whole, lines_open, refused_number, refused_line, refused_column}
-use Rattle.hexread.specs.LawsTaken.{WordRefused, word_refused, line_number_most, at_character, at_word, sound_record}
+use Rattle.hexread.specs.LawsFault.{at_character, at_word}
+use Rattle.hexread.specs.LawsTaken.{WordRefused, word_refused, line_number_most, sound_record}
 use Rattle.hexread.specs.LawsLines.{step_all, all_taken}
 
 -- ---- one line

@@ -1,21 +1,21 @@
 -- Laws of giving the words of a data record to an image.
-use Rattle.std.specs.Prelude.{ℕ, zero, suc, ◌+◌, ◌-◌, ◌*◌, ◌/◌, ◌≤◌, ◌<◌, ◌≡◌, refl, Bool, true, false, List, [], ◌∷◌, length, get_or, set}
+use Rattle.std.specs.Prelude.{ℕ, zero, suc, ◌+◌, ◌-◌, ◌*◌, ◌/◌, ◌≤◌, ◌<◌, ◌≡◌, refl, Bool, true, false, Option, Some, None, Result, Ok, Err, List, [], ◌∷◌, length, get_or, set}
 use native.Mathlib.Omega.{arith}
 use Rattle.std.proofs.Common.{sym, ap, ◌∙◌, length-set}
 use borrow.Author.Tests.{eq-eqb, ne_eqb}
+use Rattle.refusal.specs.Refusal.{number_of}
+use Rattle.refusal.specs.declared.Refusal.TheVariants.{NoSuchWord, WordTooLarge, GivenBefore}
 use Rattle.words.specs.Choice.{pick}
 use Rattle.words.specs.Word.{not_given}
 use Rattle.words.specs.Address.{halved}
-use Rattle.words.specs.declared.ByteAddress.{ByteAddress}
-use Rattle.words.specs.declared.Place.{Place}
 use Rattle.words.specs.LawsWord.{is_word_lem, not_word}
 use Rattle.device.specs.Memory.{reading_tail, programmable}
 use Rattle.device.specs.LawsMemory.{programmable_lt}
-use Rattle.hexread.specs.Line.{count_of}
+use Rattle.hexread.specs.Line.{count_of, offset_of}
 use Rattle.hexread.specs.Step.{word_of, byte_address, entry_at, entry_of_word, word_number, Reading, give_words}
 use Rattle.hexread.specs.Column.{refused_word}
-use Rattle.hexread.specs.LawsLine.{OffsetRead}
-use Rattle.hexread.specs.LawsDecode.{OffsetOf, Sound, sound_count, sound_offset, sound_word}
+use Rattle.hexread.specs.LawsDecode.{Sound, sound_count, sound_word}
+use Rattle.hexread.specs.declared.fault.RefusedWord.{RefusedWord}
 
 -- where a reading stands, by its four values
 abbrev pub reading : Bool → ℕ → List ℕ → ℕ → Reading
@@ -40,15 +40,43 @@ get_d_default (x ∷ l) (suc i) d e h = get_d_default l i d e (omega arith)
 
 -- ---- a word, and where it goes
 
-pub address_read : (upper : ℕ) (line : List ℕ) (offset j : ℕ) → OffsetRead line offset → ◌≡◌ {A = ByteAddress} (record { 0 = upper * 65536 + offset + 2 * j }) (byte_address upper line j)
-unfolding byte_address
-address_read upper line offset j o = rw o.value
+-- the entry of word j of a record with this offset
+abbrev pub entry_by : (words upper offset j : ℕ) → ℕ
+entry_by words upper offset j = entry_at words (halved (record { 0 = upper * 65536 + offset + 2 * j }))
 
-pub entry_read : (words upper : ℕ) (line : List ℕ) (offset j entry : ℕ) (b : ByteAddress) (p : Place) → OffsetRead line offset
-    → b ≡ record { 0 = upper * 65536 + offset + 2 * j } → p ≡ halved b → entry ≡ entry_at words p → entry ≡ entry_of_word words upper line j
-unfolding entry_of_word
-entry_read words upper line offset j entry b p o eb ep e =
-    e ∙ ap (entry_at words) (ep ∙ ap halved (eb ∙ address_read upper line offset j o))
+pub entry_read : (words upper : ℕ) (line : List ℕ) (offset j : ℕ) → offset ≡ offset_of line → entry_by words upper offset j ≡ entry_of_word words upper line j
+unfolding entry_of_word byte_address
+entry_read words upper line offset j e = rw e
+
+-- that entry, if a word can be given to it
+abbrev pub entry_given : (words upper offset j : ℕ) → Option ℕ
+entry_given words upper offset j = pick (programmable words (entry_by words upper offset j)) (Some (entry_by words upper offset j)) None
+
+-- of a line
+abbrev pub entry_if : (words upper : ℕ) (line : List ℕ) (j : ℕ) → Option ℕ
+entry_if words upper line j = pick (programmable words (entry_of_word words upper line j)) (Some (entry_of_word words upper line j)) None
+
+pub given_read : (words upper : ℕ) (line : List ℕ) (offset j : ℕ) → offset ≡ offset_of line → entry_given words upper offset j ≡ entry_if words upper line j
+given_read words upper line offset j e = rw (entry_read words upper line offset j e)
+
+-- it lies within the image
+pub given_inside : (words upper offset j i : ℕ) (image : List ℕ) → length image ≡ words + reading_tail → Some i ≡ entry_given words upper offset j → i < length image
+given_inside words upper offset j i image long e = rw long (by (programmable words (entry_by words upper offset j)) refl e)
+  where
+    by : (b : Bool) → b ≡ programmable words (entry_by words upper offset j) → Some i ≡ pick b (Some (entry_by words upper offset j)) None → i < words + reading_tail
+    by true t s = unfold pick in let k : i ≡ entry_by words upper offset j = cc in rw k (programmable_lt words (entry_by words upper offset j) (sym t))
+    by false t s = unfold pick in cc
+
+module _ (words upper : ℕ) (line : List ℕ) (j : ℕ) where
+  told_some : (i : ℕ) → (b : Bool) → Some i ≡ pick b (Some (entry_of_word words upper line j)) None → (b ≡ true) × (i ≡ entry_of_word words upper line j)
+  unfolding pick
+  told_some i true e = (refl, cc)
+  told_some i false e = cc
+
+  told_none : (b : Bool) → None ≡ pick b (Some (entry_of_word words upper line j)) None → b ≡ false
+  unfolding pick
+  told_none true e = cc
+  told_none false e = refl
 
 -- ---- one turn over the words that are left
 
@@ -92,71 +120,68 @@ module _ (words upper : ℕ) (line image : List ℕ) where
 
 -- ---- the loop over a record's words
 
--- the same of all words of a record, whatever line the bytes are those of
-abbrev pub Gives : (words upper : ℕ) → (bytes image₀ image : List ℕ) → (number word : ℕ) → Type 0
-Gives words upper bytes image₀ image number word =
-    (line : List ℕ) → Sound line bytes → stopped upper image number word ≡ gave words upper line image₀ 0 (count_of line / 2)
+-- what a function tells of the entries of a record's n words
+abbrev pub Answers : (post : ℕ → Option ℕ → Type 0) (words upper : ℕ) → List ℕ → (n : ℕ) → Type 0
+Answers post words upper line n = (j : ℕ) (o : Option ℕ) → j < n → post j o → o ≡ entry_if words upper line j
+
+-- what giving comes to
+abbrev pub given_told : (upper : ℕ) → (image : List ℕ) → (n : ℕ) → Result (Unit {0}) RefusedWord → Gave
+given_told upper image n (Ok _) = stopped upper image 0 n
+given_told upper image n (Err w) = stopped upper image (number_of w.refusal) w.word
+
+-- the n words of a record are given, whatever line the bytes are those of
+abbrev pub Gives : (post : ℕ → Option ℕ → Type 0) (n : ℕ) (bytes image₀ image : List ℕ) → Result (Unit {0}) RefusedWord → Type 0
+Gives post n bytes image₀ image r =
+    (words upper : ℕ) (line : List ℕ) → Sound line bytes → n ≡ count_of line / 2 → Answers post words upper line n → given_told upper image n r ≡ gave words upper line image₀ 0 n
+
+-- the same by the record's device, upper half, length and offset
+abbrev pub GivesRecord : (words upper count offset : ℕ) (bytes image₀ image : List ℕ) → Result (Unit {0}) RefusedWord → Type 0
+GivesRecord words upper count offset bytes image₀ image r =
+    (line : List ℕ) → Sound line bytes → count ≡ count_of line → offset ≡ offset_of line → given_told upper image (count / 2) r ≡ gave words upper line image₀ 0 (count_of line / 2)
 
 -- j of n words are given
-pub record Giving (words upper : ℕ) (bytes image₀ : List ℕ) (offset n : ℕ) (image : List ℕ) (j : ℕ) : Type 0 where
-  pub within : j ≤ n
-  pub few : n < 128
-  pub size : n ≡ get_or bytes 0 0 / 2
-  pub long : length image ≡ words + reading_tail
+pub record Giving (post : ℕ → Option ℕ → Type 0) (n : ℕ) (bytes image₀ image : List ℕ) (j : ℕ) : Type 0 where
   pub kept : length image ≡ length image₀
-  pub start : OffsetOf bytes offset
-  pub rest : (line : List ℕ) → Sound line bytes → gave words upper line image j (n - j) ≡ gave words upper line image₀ 0 (count_of line / 2)
+  pub rest : (words upper : ℕ) (line : List ℕ) → Sound line bytes → n ≡ count_of line / 2 → Answers post words upper line n
+      → gave words upper line image j (n - j) ≡ gave words upper line image₀ 0 n
 
-module _ (words upper : ℕ) (bytes image₀ : List ℕ) (offset : ℕ) where
-  pub giving_none : OffsetOf bytes offset → get_or bytes 0 0 < 256 → length image₀ ≡ words + reading_tail → Giving words upper bytes image₀ offset (get_or bytes 0 0 / 2) image₀ 0
-  giving_none o c l =
-      let all : get_or bytes 0 0 / 2 - 0 ≡ get_or bytes 0 0 / 2 = omega arith in
-      record {
-        within = omega arith;
-        few = omega arith;
-        size = refl;
-        long = l;
-        kept = refl;
-        start = o;
-        rest = λ line s. rw (all, sound_count line bytes s);
-      }
+module _ (post : ℕ → Option ℕ → Type 0) (n : ℕ) (bytes image₀ : List ℕ) where
+  pub giving_none : Giving post n bytes image₀ image₀ 0
+  giving_none = let all : n - 0 ≡ n = omega arith in record { kept = refl; rest = λ words upper line s c a. rw all }
 
-  module _ (n : ℕ) (image : List ℕ) (j : ℕ) (g : Giving words upper bytes image₀ offset n image j) where
-    pub giving_all : n ≤ j → Gives words upper bytes image₀ image 0 j
-    giving_all h line s = sym (give_none words upper line image j n h) ∙ g.rest line s
+  module _ (image : List ℕ) (j : ℕ) (g : Giving post n bytes image₀ image j) where
+    pub giving_all : j ≡ n → Gives post n bytes image₀ image (Ok tt)
+    giving_all h words upper line s c a = (ap (stopped upper image 0) (sym h) ∙ sym (give_none words upper line image j n (omega arith))) ∙ g.rest words upper line s c a
 
-    module _ (left : j < n) (b : ByteAddress) (eb : b ≡ record { 0 = upper * 65536 + offset + 2 * j }) (p : Place) (ep : p ≡ halved b) (entry : ℕ) (e : entry ≡ entry_at words p) where
-      at : (line : List ℕ) → Sound line bytes → entry ≡ entry_of_word words upper line j
-      at line s = entry_read words upper line offset j entry b p (sound_offset line bytes s offset g.start) eb ep e
+    module _ (left : j < n) where
+      pub giving_7 : post j None → Gives post n bytes image₀ image (Err (record { refusal = NoSuchWord; word = j }))
+      giving_7 p words upper line s c a =
+          sym (turn_7 words upper line image j n left _ refl (told_none words upper line j _ (a j None left p))) ∙ g.rest words upper line s c a
 
-      module _ (can : Bool) (ec : can ≡ programmable words entry) where
-        pub giving_7 : can ≡ false → Gives words upper bytes image₀ image 7 j
-        giving_7 f line s = sym (turn_7 words upper line image j n left entry (at line s) (sym ec ∙ f)) ∙ g.rest line s
+      module _ (i : ℕ) (p : post j (Some i)) (word : ℕ) (w : word ≡ get_or bytes (4 + 2 * j) 0 + 256 * get_or bytes (5 + 2 * j) 0) where
+        module _ (words upper : ℕ) (line : List ℕ) (s : Sound line bytes) (c : n ≡ count_of line / 2) (a : Answers post words upper line n) where
+          at : (programmable words (entry_of_word words upper line j) ≡ true) × (i ≡ entry_of_word words upper line j)
+          at = told_some words upper line j i _ (a j (Some i) left p)
 
-        module _ (t : can ≡ true) where
-          pub entry_lt : entry < length image
-          entry_lt = rw g.long (programmable_lt words entry (sym ec ∙ t))
+          can : programmable words i ≡ true
+          can = rw at.1 at.0
 
-          module _ (word : ℕ) (w : word ≡ get_or bytes (4 + 2 * j) 0 + 256 * get_or bytes (5 + 2 * j) 0) where
-            is : (line : List ℕ) → Sound line bytes → word ≡ word_of line j
-            is line s = sound_word line bytes s j word (rw g.size at left) w
+          is : word ≡ word_of line j
+          is = sound_word line bytes s j word (let k : get_or bytes 0 0 ≡ count_of line = sound_count line bytes s in rw k (rw c at left)) w
 
-            pub giving_8 : 0x4000 ≤ word → Gives words upper bytes image₀ image 8 j
-            giving_8 h line s = sym (turn_8 words upper line image j n left entry (at line s) (sym ec ∙ t) word (is line s) h) ∙ g.rest line s
+        pub giving_8 : 0x4000 ≤ word → Gives post n bytes image₀ image (Err (record { refusal = WordTooLarge; word = j }))
+        giving_8 h words upper line s c a =
+            sym (turn_8 words upper line image j n left i (at words upper line s c a).1 (can words upper line s c a) word (is words upper line s c a) h) ∙ g.rest words upper line s c a
 
-            module _ (low : word < 0x4000) where
-              pub giving_9 : (get_or image entry 0 ≡ not_given → ⊥) → Gives words upper bytes image₀ image 9 j
-              giving_9 h line s = sym (turn_9 words upper line image j n left entry (at line s) (sym ec ∙ t) word (is line s) low entry_lt h) ∙ g.rest line s
+        module _ (low : word < 0x4000) (here : i < length image) where
+          pub giving_9 : (get_or image i 0 ≡ not_given → ⊥) → Gives post n bytes image₀ image (Err (record { refusal = GivenBefore; word = j }))
+          giving_9 h words upper line s c a =
+              sym (turn_9 words upper line image j n left i (at words upper line s c a).1 (can words upper line s c a) word (is words upper line s c a) low here h) ∙ g.rest words upper line s c a
 
-              pub giving_on : get_or image entry 0 ≡ not_given → Giving words upper bytes image₀ offset n (set image entry word) (j + 1)
-              giving_on h =
-                  let same : length (set image entry word) ≡ length image = length-set image entry word in
-                  record {
-                    within = omega arith;
-                    few = g.few;
-                    size = g.size;
-                    long = same ∙ g.long;
-                    kept = same ∙ g.kept;
-                    start = g.start;
-                    rest = λ line s. sym (turn_on words upper line image j n left entry (at line s) (sym ec ∙ t) word (is line s) low entry_lt h) ∙ g.rest line s;
-                  }
+          pub giving_on : get_or image i 0 ≡ not_given → Giving post n bytes image₀ (set image i word) (j + 1)
+          giving_on h =
+              record {
+                kept = length-set image i word ∙ g.kept;
+                rest = λ words upper line s c a.
+                    sym (turn_on words upper line image j n left i (at words upper line s c a).1 (can words upper line s c a) word (is words upper line s c a) low here h) ∙ g.rest words upper line s c a;
+              }

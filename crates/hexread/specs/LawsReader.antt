@@ -1,29 +1,31 @@
 -- Laws of reading HEX text: one line, the lines one after another, and the call.
-use Prim.Native.Nat.{ℕ, zero, suc, ◌+◌, ◌-◌, ◌*◌, ◌/◌, ◌≤◌, ◌<◌}
+use Prim.Native.Nat.{ℕ, ◌+◌, ◌*◌, ◌/◌, ◌≤◌, ◌<◌}
 use Rattle.std.proofs.Math.Decide.{ℕ_discrete}
-use Rattle.std.proofs.Common.{arith, ◌∙◌, inl, inr, append-nil, length-set, drop_of_length-le}
-use Rattle.std.specs.Prelude.{◌≡◌, ◌⊎◌, Bool, true, false, List, [], ◌∷◌, ◌++◌, eqb, length, drop, set}
+use Rattle.std.proofs.Common.{arith, ◌∙◌, inl, inr, drop_of_length-le}
+use Rattle.std.specs.Prelude.{◌≡◌, ◌⊎◌, Bool, true, false, Result, Ok, Err, is_err, List, [], ◌∷◌, eqb, length, drop}
 use Rattle.std.proofs.Math.Path.{refl, sym, ap}
 use Rattle.std.proofs.Math.ListN.{replicate}
 use Rattle.std.proofs.lemmas.List.{length-replicate}
-use Rattle.std.proofs.Math.Seq.{drop-length}
-use Rattle.std.proofs.lemmas.List.Edits.{fill_none, fill_more}
 use borrow.Author.Tests.{eq-eqb, ne_eqb, le-leb, lt-leb}
 use Rattle.words.specs.Choice.{pick}
 use Rattle.words.specs.Word.{not_given}
 use Rattle.words.specs.LawsChoice.{pick_true, pick_false, decided}
 use Rattle.device.specs.declared.Device.{Device}
-use Rattle.device.specs.Record.{device_ok}
+use Rattle.device.specs.Record.{device_ok, record_number}
+use Rattle.device.specs.LawsRecord.{bad_of_judged}
+use Rattle.refusal.specs.declared.Refusal.{Refusal}
 use Rattle.device.specs.Memory.{reading_tail}
 use Rattle.lines.specs.Lines.{lines_of, line_at, end_of}
 use Rattle.lines.specs.LawsLine.{lines_of_nothing, lines_left, end_most, end_least}
 use Rattle.hexread.specs.Line.{count_of, type_of, line_number}
 use Rattle.hexread.specs.Step.{Reading, give_words, record_step, line_refused, line_step}
-use Rattle.hexread.specs.Column.{column_of, line_column}
-use Rattle.hexread.specs.Reader.{most_text, blank_image, Outcome, refused_at, read_lines, begun, text_read, read_answer, HexRead}
+use Rattle.hexread.specs.Column.{line_column}
+use Rattle.hexread.specs.Reader.{most_text, blank_image, Outcome, refused_at, read_lines, begun, text_read, ReadHex, read_told, read_answer, HexRead}
+use Rattle.hexread.specs.declared.Misread.{Misread}
+use Rattle.refusal.specs.Refusal.{number_of}
+use Rattle.refusal.specs.LawsRefusal.{number_of_unique, number_of_positive}
 use Rattle.hexread.specs.LawsLine.{ByteRead}
 use Rattle.hexread.specs.LawsGive.{reading}
-use Rattle.hexread.specs.declared.ReadHex.{ReadHex}
 
 -- ---- one line
 
@@ -162,17 +164,8 @@ left_none text from words k now h z =
 
 -- ---- the loop over the lines
 
--- where the line after k lines begins
-unfoldable pub line_start : (text : List ℕ) → (k : ℕ) → ℕ
-line_start text zero = 0
-line_start text (suc k) = end_of text (line_start text k) + 1
-
 abbrev pub outcome : (words : ℕ) → (text image : List ℕ) → Outcome
 outcome words text image = read_lines words (lines_of text) 1 (reading false 0 image 0)
-
--- a line that is told has a number
-pub line_some : (line : ℕ) → (line ≡ 0 → ⊥) → 1 ≤ line
-line_some line n = omega (arith, n)
 
 -- the lines up to `at` are read, and the next one has this number
 pub record Ahead (words : ℕ) (text image₀ : List ℕ) (at line : ℕ) (ended : Bool) (upper : ℕ) (image : List ℕ) : Type 0 where
@@ -180,21 +173,11 @@ pub record Ahead (words : ℕ) (text image₀ : List ℕ) (at line : ℕ) (ended
   pub within : at ≤ length text + 1
   pub count : line ≤ at + 1
   pub least : 1 ≤ line
-  pub start : at ≡ line_start text (line - 1)
   pub long : length image ≡ words + reading_tail
   pub kept : length image ≡ length image₀
   pub rest : read_lines words (lines_of (drop at text)) line (reading ended upper image 0) ≡ outcome words text image₀
 
--- where the loop stops; the image of a refused text is of no use
-pub record LinesStopped (words : ℕ) (text image₀ : List ℕ) (number line word : ℕ) (image : List ℕ) : Type 0 where
-  pub number_is : number ≡ (outcome words text image₀).number
-  pub line_is : line ≡ (outcome words text image₀).line
-  pub no_column : line ≡ 0 → 0 ≡ (outcome words text image₀).column
-  pub within : (line ≡ 0 → ⊥) → line_start text (line - 1) < length text
-  pub column_is : (line ≡ 0 → ⊥) → column_of number (line_at text (line_start text (line - 1))) word ≡ (outcome words text image₀).column
-  pub image_is : number ≡ 0 → image ≡ (outcome words text image₀).image
-
--- what that comes to
+-- what reading the lines comes to; the image of a refused text is of no use
 pub record LinesRead (words : ℕ) (text image₀ : List ℕ) (r : ReadHex) (image : List ℕ) : Type 0 where
   pub number_is : r.number ≡ (outcome words text image₀).number
   pub line_is : r.line ≡ (outcome words text image₀).line
@@ -203,19 +186,13 @@ pub record LinesRead (words : ℕ) (text image₀ : List ℕ) (r : ReadHex) (ima
 
 module _ (words : ℕ) (text image₀ : List ℕ) where
   pub ahead_all : length text ≤ most_text → length image₀ ≡ words + reading_tail → Ahead words text image₀ 0 1 false 0 image₀
-  ahead_all s l = record { short = s; within = omega arith; count = omega arith; least = omega arith; start = unfold line_start in refl; long = l; kept = refl; rest = refl }
+  ahead_all s l = record { short = s; within = omega arith; count = omega arith; least = omega arith; long = l; kept = refl; rest = refl }
 
   module _ (at line : ℕ) (ended : Bool) (upper : ℕ) (image : List ℕ) (a : Ahead words text image₀ at line ended upper image) where
     module _ (left : at < length text) (ended' : Bool) (upper' : ℕ) (image' : List ℕ) (number : ℕ)
         (step : reading ended' upper' image' number ≡ line_step words (line_at text at) (reading ended upper image 0)) where
       here : at ≤ length text
       here = omega arith
-
-      next_start : end_of text at + 1 ≡ line_start text (line + 1 - 1)
-      unfolding line_start
-      next_start =
-          let e : line + 1 - 1 ≡ suc (line - 1) = omega (arith, a.least) in
-          rw e (ap (λ k. end_of text k + 1) a.start)
 
       pub ahead_on : length image' ≡ length image → number ≡ 0 → Ahead words text image₀ (end_of text at + 1) (line + 1) ended' upper' image'
       ahead_on l z =
@@ -228,23 +205,20 @@ module _ (words : ℕ) (text image₀ : List ℕ) where
             within = omega arith;
             count = omega arith;
             least = omega arith;
-            start = next_start;
             long = l ∙ a.long;
             kept = l ∙ a.kept;
             rest = sym (left_on text at here words line (reading ended upper image 0) (reading ended' upper' image' 0) (same ∙ step) refl) ∙ a.rest;
           }
 
-      pub lines_refused : (number ≡ 0 → ⊥) → (word : ℕ) → column_of number (line_at text at) word ≡ line_column words (line_at text at) (reading ended upper image 0)
-          → LinesStopped words text image₀ number line word image'
-      lines_refused n word c =
+      pub lines_refused : (number ≡ 0 → ⊥) → (column : ℕ) → column ≡ line_column words (line_at text at) (reading ended upper image 0)
+          → LinesRead words text image₀ (record { number = number; line = line; column = column }) image'
+      lines_refused n column c =
           let out : refused_at words number line (line_column words (line_at text at) (reading ended upper image 0)) ≡ outcome words text image₀ =
           sym (left_stop text at here words line (reading ended upper image 0) (reading ended' upper' image' number) step n) ∙ a.rest in
           record {
             number_is = sym (refused_number words number line _) ∙ ap (λ o. o.number) out;
             line_is = sym (refused_line words number line _) ∙ ap (λ o. o.line) out;
-            no_column = λ z. absurd (omega (arith, a.least));
-            within = λ m. rw (← a.start) left;
-            column_is = λ m. rw (← a.start) (c ∙ (sym (refused_column words number line _) ∙ ap (λ o. o.column) out));
+            column_is = c ∙ (sym (refused_column words number line _) ∙ ap (λ o. o.column) out);
             image_is = λ z. absurd (n z);
           }
 
@@ -252,67 +226,27 @@ module _ (words : ℕ) (text image₀ : List ℕ) where
       ends : read_lines words [] (line + 1) (reading ended upper image 0) ≡ outcome words text image₀
       ends = sym (left_none text at words line (reading ended upper image 0) done refl) ∙ a.rest
 
-      pub lines_ended : ended ≡ true → LinesStopped words text image₀ 0 0 0 image
+      pub lines_ended : ended ≡ true → LinesRead words text image₀ (record { number = 0; line = 0; column = 0 }) image
       lines_ended t =
           let out : ◌≡◌ {A = Outcome} (record { number = 0; line = 0; column = 0; image = image }) (outcome words text image₀) =
           sym (lines_whole words (line + 1) (reading ended upper image 0) t) ∙ ends in
           record {
             number_is = ap (λ o. o.number) out;
             line_is = ap (λ o. o.line) out;
-            no_column = λ z. ap (λ o. o.column) out;
-            within = λ m. absurd (m refl);
-            column_is = λ m. absurd (m refl);
+            column_is = ap (λ o. o.column) out;
             image_is = λ z. ap (λ o. o.image) out;
           }
 
-      pub lines_not_ended : ended ≡ false → LinesStopped words text image₀ 10 0 0 image
+      pub lines_not_ended : ended ≡ false → LinesRead words text image₀ (record { number = 10; line = 0; column = 0 }) image
       lines_not_ended f =
           let out : refused_at words 10 0 0 ≡ outcome words text image₀ =
           sym (lines_open words (line + 1) (reading ended upper image 0) f) ∙ ends in
           record {
             number_is = sym (refused_number words 10 0 0) ∙ ap (λ o. o.number) out;
             line_is = sym (refused_line words 10 0 0) ∙ ap (λ o. o.line) out;
-            no_column = λ z. sym (refused_column words 10 0 0) ∙ ap (λ o. o.column) out;
-            within = λ m. absurd (m refl);
-            column_is = λ m. absurd (m refl);
+            column_is = sym (refused_column words 10 0 0) ∙ ap (λ o. o.column) out;
             image_is = λ z. absurd (omega arith);
           }
-
-  -- with the column of a refused line
-  module _ (number line word : ℕ) (image : List ℕ) (s : LinesStopped words text image₀ number line word image) where
-    pub text_whole : line ≡ 0 → LinesRead words text image₀ (record { number = number; line = 0; column = 0 }) image
-    text_whole z = record { number_is = s.number_is; line_is = sym z ∙ s.line_is; column_is = s.no_column z; image_is = s.image_is }
-
-    pub text_refused : (line ≡ 0 → ⊥) → (column : ℕ) → column ≡ column_of number (line_at text (line_start text (line - 1))) word
-        → LinesRead words text image₀ (record { number = number; line = line; column = column }) image
-    text_refused n column c = record { number_is = s.number_is; line_is = s.line_is; column_is = c ∙ s.column_is n; image_is = s.image_is }
-
--- ---- the image made blank
-
--- i entries are cleared
-pub record Clearing (image₀ image : List ℕ) (i : ℕ) : Type 0 where
-  pub within : i ≤ length image₀
-  pub kept : length image ≡ length image₀
-  pub entries : image ≡ replicate i not_given ++ drop i image₀
-
-module _ (image₀ : List ℕ) where
-  pub clearing_none : Clearing image₀ image₀ 0
-  clearing_none = record { within = omega arith; kept = refl; entries = fill_none image₀ not_given }
-
-  module _ (image : List ℕ) (i : ℕ) (c : Clearing image₀ image i) where
-    pub clearing_more : i < length image → Clearing image₀ (set image i not_given) (i + 1)
-    clearing_more h =
-        let left : i < length image₀ = rw c.kept at h in
-        record {
-          within = omega arith;
-          kept = length-set image i not_given ∙ c.kept;
-          entries = ap (λ l. set l i not_given) c.entries ∙ fill_more i not_given image₀ left;
-        }
-
-    pub clearing_all : length image ≤ i → image ≡ replicate (length image₀) not_given
-    clearing_all h =
-        let all : i ≡ length image₀ = omega (arith, c.within, c.kept) in
-        c.entries ∙ (rw (all, drop-length image₀) (append-nil (replicate (length image₀) not_given)))
 
 -- ---- the call
 
@@ -348,8 +282,14 @@ module _ (d : Device) (text image : List ℕ) where
         image_is = i ∙ ap (λ x. x.image) (sym e);
       }
 
-  pub hex_13 : device_ok d ≡ false → HexRead d text image (record { number = 13; line = 0; column = 0 }) image
+  hex_13 : device_ok d ≡ false → HexRead d text image (record { number = 13; line = 0; column = 0 }) image
   hex_13 f = answered (record { number = 13; line = 0; column = 0; image = image }) image _ (unfold text_read in pick_false (device_ok d) _ _ f) refl refl refl refl
+
+  pub hex_bad : (e : Refusal) → number_of e ≡ record_number d → HexRead d text image (record { number = number_of e; line = 0; column = 0 }) image
+  unfolding record_number
+  hex_bad e q =
+      let f : device_ok d ≡ false = bad_of_judged d (λ z. absurd (omega (arith, number_of_positive e, q, z))) in
+      rw (q ∙ pick_false (device_ok d) 0 13 f) (hex_13 f)
 
   module _ (sound : device_ok d ≡ true) where
     pub hex_12 : (length image ≡ d.words + reading_tail → ⊥) → HexRead d text image (record { number = 12; line = 0; column = 0 }) image
@@ -387,3 +327,20 @@ module _ (d : Device) (text image : List ℕ) where
             answered (outcome d.words text image₁) image₃ r read_is o.number_is o.line_is o.column_is
             (cleared image₃ (c₃ ∙ ap (λ m. replicate m not_given) same)
             ∙ sym (refused_blank d.words (lines_of text) 1 (reading false 0 image₁ 0) (λ z. n (o.number_is ∙ z))))
+
+-- two answers that are told the same are one
+pub told_unique : (r s : Result (Unit {0}) Misread) → read_told r ≡ read_told s → r ≡ s
+told_unique (Ok x) (Ok y) e = refl
+told_unique (Ok x) (Err m) e = let z : 0 ≡ number_of m.refusal = ap (λ a. a.number) e in absurd (omega (arith, number_of_positive m.refusal, z))
+told_unique (Err m) (Ok y) e = let z : number_of m.refusal ≡ 0 = ap (λ a. a.number) e in absurd (omega (arith, number_of_positive m.refusal, z))
+told_unique (Err m) (Err n) e =
+    let f : m.refusal ≡ n.refusal = number_of_unique m.refusal n.refusal (ap (λ a. a.number) e) in
+    ap Err (λ k. record { refusal = f k; line = (ap (λ a. a.line) e) k; column = (ap (λ a. a.column) e) k })
+
+pub told_err : (r : Result (Unit {0}) Misread) → is_err r ≡ true → (read_told r).number ≡ 0 → ⊥
+told_err (Ok x) e z = cc
+told_err (Err m) e z = absurd (omega (arith, number_of_positive m.refusal, z))
+
+pub told_ok : (r : Result (Unit {0}) Misread) → is_err r ≡ false → (read_told r).number ≡ 0
+told_ok (Ok x) e = refl
+told_ok (Err m) e = cc

@@ -1,12 +1,12 @@
 -- Laws of the characters of a line: one that can stand, the first that cannot, and what they tell of a record.
-use Rattle.std.specs.Prelude.{ℕ, ◌+◌, ◌-◌, ◌*◌, ◌/◌, ◌%◌, ◌≤◌, ◌<◌, ◌≡◌, Bool, ◌&&◌, List, length, get_or}
+use Rattle.std.specs.Prelude.{ℕ, ◌+◌, ◌-◌, ◌*◌, ◌/◌, ◌%◌, ◌≤◌, ◌<◌, ◌≡◌, Bool, ◌&&◌, Some, None, is_some, List, length, get_or}
 use Rattle.std.proofs.Math.Decide.{dec_lt, ℕ_discrete}
 use Rattle.std.proofs.Common.{arith, sym, ◌∙◌}
 use Rattle.std.proofs.Math.Path.{refl, ap}
 use Rattle.std.proofs.Math.Bool.{true, false, not}
 use Rattle.std.proofs.Math.Dec.{ltb, eqb}
 use borrow.Author.Tests.{lt-ltb, le-ltb, ltb-true, eq-eqb, ne_eqb, eqb-true}
-use Rattle.words.specs.Choice.{pick}
+use Rattle.words.specs.Choice.{pick, below}
 use Rattle.words.specs.First.{first_to}
 use Rattle.words.specs.Lists.{every}
 use Rattle.words.specs.LawsChoice.{true_not_false, both, first_holds, second_holds}
@@ -14,10 +14,10 @@ use Rattle.words.specs.LawsFirst.{first, first_is}
 use Rattle.words.specs.LawsLists.{every_at, every_all}
 use Rattle.words.specs.LawsTests.{not_holds, not_fails}
 use Rattle.numerals.specs.Hex.{digit_of, byte_by, joined}
-use Rattle.numerals.specs.LawsHex.{joined_both, joined_no_high, joined_no_low}
+use Rattle.numerals.specs.LawsHex.{some_below, none_below, joined_both, joined_no_high, joined_no_low}
 use Rattle.hexread.specs.Line.{byte_at, count_of, is_record}
 use Rattle.hexread.specs.Column.{is_digit, can_stand, bad_column}
-use Rattle.hexread.specs.LawsLine.{ByteRead}
+use Rattle.hexread.specs.LawsLine.{joined_most}
 
 -- ---- one character
 
@@ -48,10 +48,27 @@ module _ (line : List ℕ) (i : ℕ) where
           itself true = refl
           itself false = refl
 
--- as many as LL allows
-pub most_of : (line : List ℕ) (count : ℕ) → ByteRead line 0 count → 1 + 2 * (count + 5) ≡ 1 + 2 * (count_of line + 5)
-unfolding count_of
-most_of line count c = rw c.value
+-- whether a character is a digit
+pub digit_told : (c : ℕ) → is_some (below 16 (digit_of c)) ≡ ltb (digit_of c) 16
+unfolding pick
+digit_told c = by (ltb (digit_of c) 16)
+  where
+    by : (b : Bool) → is_some (pick b (Some (digit_of c)) None) ≡ b
+    by true = refl
+    by false = refl
+
+-- LL, or one more than the largest byte
+module _ (line : List ℕ) where
+  pub count_some : (count : ℕ) → Some count ≡ below 256 (byte_by digit_of line 1) → count ≡ count_of line
+  unfolding count_of byte_at
+  count_some count e = (some_below 256 _ count e).0
+
+  pub count_none : None ≡ below 256 (byte_by digit_of line 1) → 256 ≡ count_of line
+  unfolding count_of byte_at byte_by
+  count_none e =
+      let l : 256 ≤ joined 16 (digit_of (get_or line 1 0)) (digit_of (get_or line 2 0)) = none_below 256 _ e in
+      let m : joined 16 (digit_of (get_or line 1 0)) (digit_of (get_or line 2 0)) ≤ 256 = joined_most _ _ in
+      omega arith
 
 -- ---- the first that cannot stand
 

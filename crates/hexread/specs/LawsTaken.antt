@@ -1,63 +1,32 @@
 -- Laws of a line that is taken: what it does to a reading, and the column if it is refused.
-use Prim.Native.Nat.{ℕ, zero, suc, ◌+◌, ◌*◌, ◌/◌, ◌≤◌, ◌<◌}
+use Prim.Native.Nat.{ℕ, zero, suc, ◌+◌, ◌/◌, ◌≤◌, ◌<◌}
 use Rattle.std.proofs.Math.Decide.{ℕ_discrete}
 use native.Mathlib.Omega.{arith}
-use Rattle.std.specs.Prelude.{◌≡◌, refl, Bool, List, length, set}
+use Rattle.std.specs.Prelude.{◌≡◌, refl, Bool, Result, Ok, Err, IfErr, List, length, get_or, set}
 use Rattle.std.proofs.Math.Path.{sym, ap}
-use Rattle.std.proofs.Common.{◌∙◌}
+use Rattle.std.proofs.Common.{◌∙◌, inl, inr}
 use Rattle.std.proofs.Math.Bool.{true, false}
 use Rattle.std.proofs.Math.Dec.{eqb}
-use borrow.Author.Tests.{eq-eqb, ne_eqb, le-leb, lt-leb}
+use borrow.Author.Tests.{eq-eqb, ne_eqb}
+use Rattle.refusal.specs.Refusal.{number_of}
+use Rattle.refusal.specs.LawsRefusal.{number_of_positive}
+use Rattle.refusal.specs.declared.Refusal.{Refusal}
+use Rattle.refusal.specs.declared.Refusal.TheVariants.{AfterEndRecord}
 use Rattle.words.specs.Choice.{pick}
 use Rattle.words.specs.LawsChoice.{pick_true}
+use Rattle.words.specs.Word.{not_given, is_word}
+use Rattle.device.specs.Memory.{programmable}
 use Rattle.hexread.specs.Line.{count_of, is_record, sum_ok, type_ok, shape_ok, data_ok, line_number}
 use Rattle.hexread.specs.Step.{word_of, entry_of_word, word_number, Reading, give_words, record_step, line_step}
-use Rattle.hexread.specs.Column.{bad_column, refused_word, word_column, column_of, line_column}
-use Rattle.hexread.specs.LawsLine.{ByteRead}
-use Rattle.hexread.specs.LawsDecode.{pick_zero}
-use Rattle.hexread.specs.LawsGive.{reading, gave, stopped}
-use Rattle.hexread.specs.LawsReader.{step_empty, step_after, step_bad, step_record, record_data}
-
--- ---- the column of a number
-
-module _ (number : ℕ) (line : List ℕ) (word : ℕ) where
-  pub at_nothing : number ≡ 0 → column_of number line word ≡ 0
-  unfolding column_of
-  at_nothing e = pick_true _ _ _ (eq-eqb number 0 e)
-
-  pub at_character : number ≡ 2 → column_of number line word ≡ bad_column line
-  unfolding column_of pick
-  at_character e = rw e
-
-  pub at_word : 7 ≤ number → number ≤ 9 → column_of number line word ≡ word_column word
-  unfolding column_of pick
-  at_word l m = rw (ne_eqb number 0 (λ z. omega arith), ne_eqb number 2 (λ z. omega arith), le-leb 7 number l, le-leb number 9 m)
-
-  pub of_word : 7 ≤ number → number ≤ 9 → 10 + 4 * word ≡ column_of number line word
-  unfolding word_column
-  of_word l m = sym (at_word l m)
-
-  module _ (n : number ≡ 0 → ⊥) (t : number ≡ 2 → ⊥) where
-    pub at_line : number < 7 → column_of number line word ≡ 1
-    unfolding column_of pick
-    at_line h = rw (ne_eqb number 0 n, ne_eqb number 2 t, lt-leb 7 number h)
-
-    pub at_line_11 : 9 < number → column_of number line word ≡ 1
-    unfolding column_of pick
-    at_line_11 h = rw (ne_eqb number 0 n, ne_eqb number 2 t, le-leb 7 number (omega arith), lt-leb number 9 h)
-
--- only 7 to 9 have a word
-module _ (number : ℕ) (line : List ℕ) (a b : ℕ) where
-  pub no_word_low : number < 7 → column_of number line a ≡ column_of number line b
-  no_word_low h = by (ℕ_discrete number 0) (ℕ_discrete number 2)
-    where
-      by : Dec (number ≡ 0) → Dec (number ≡ 2) → column_of number line a ≡ column_of number line b
-      by (yes e) q = at_nothing number line a e ∙ sym (at_nothing number line b e)
-      by (no e) (yes q) = at_character number line a q ∙ sym (at_character number line b q)
-      by (no e) (no q) = at_line number line a e q h ∙ sym (at_line number line b e q h)
-
-  pub no_word_high : 9 < number → column_of number line a ≡ column_of number line b
-  no_word_high h = at_line_11 number line a (λ z. omega arith) (λ z. omega arith) h ∙ sym (at_line_11 number line b (λ z. omega arith) (λ z. omega arith) h)
+use Rattle.hexread.specs.Column.{refused_word, column_of, line_column}
+use Rattle.hexread.specs.LawsFault.{fault_column, of_line, of_word}
+use Rattle.hexread.specs.LawsDecode.{Tells, pick_zero, sound_byte, sound_offset, sound_high, sound_low}
+use Rattle.hexread.specs.LawsGive.{reading, gave, stopped, given_told, GivesRecord}
+use Rattle.hexread.specs.LawsReader.{step_empty, step_after, step_bad, step_record, record_data, record_end, record_upper}
+use Rattle.hexread.specs.declared.line.Record.TheVariants.{Data, End, Upper}
+use Rattle.hexread.specs.declared.fault.RefusedWord.{RefusedWord}
+use Rattle.hexread.specs.declared.fault.Fault.{Fault}
+use Rattle.hexread.specs.declared.fault.Fault.TheVariants.{Line, Word}
 
 -- ---- what a line's own number tells
 
@@ -130,49 +99,108 @@ module _ (words upper : ℕ) (line : List ℕ) where
       by (no z) rest = (0, refused_here n j image z)
       by (yes z) rest = later z (rest (λ y. some (ap (λ r. r.number) (give_later n j image z n) ∙ y)))
 
+-- the number of a word that is not given
+word_range : (words upper : ℕ) (line image : List ℕ) (j : ℕ) → (word_number words upper line image j ≡ 0 → ⊥) → (7 ≤ word_number words upper line image j) × (word_number words upper line image j ≤ 9)
+unfolding word_number
+word_range words upper line image j n = by (programmable words (entry_of_word words upper line j)) (is_word (word_of line j)) (eqb (get_or image (entry_of_word words upper line j) not_given) not_given) n
+  where
+    number : (a b c : Bool) → ℕ
+    number a b c = pick a (pick b (pick c 0 9) 8) 7
+
+    by : (a b c : Bool) → (number a b c ≡ 0 → ⊥) → (7 ≤ number a b c) × (number a b c ≤ 9)
+    by true true true n = unfold pick in absurd (n refl)
+    by true true false n = unfold pick in (omega arith, omega arith)
+    by true false c n = unfold pick in (omega arith, omega arith)
+    by false b c n = unfold pick in (omega arith, omega arith)
+
+give_range : (words upper : ℕ) (line image : List ℕ) (n : ℕ) → ((give_words words upper line image 0 n).number ≡ 0 → ⊥)
+    → (7 ≤ (give_words words upper line image 0 n).number) × ((give_words words upper line image 0 n).number ≤ 9)
+give_range words upper line image n some = by (word_refused words upper line n 0 image some)
+  where
+    by : (m : ℕ) × WordRefused words upper line image 0 n m → (7 ≤ (give_words words upper line image 0 n).number) × ((give_words words upper line image 0 n).number ≤ 9)
+    by (m, t) = rw (← t.refused) (word_range words upper line (give_words words upper line image 0 m).image (0 + m) (λ z. some (sym t.refused ∙ z)))
+
 -- ---- a sound record
 
--- the word decides the column, if one is refused
-pub record RecordTaken (words : ℕ) (line : List ℕ) (upper : ℕ) (image : List ℕ) (after : Reading) (word : ℕ) : Type 0 where
+-- a refusal decides the column
+pub record RecordTaken (words : ℕ) (line : List ℕ) (upper : ℕ) (image : List ℕ) (after : Reading) (r : Result (Unit {0}) Fault) : Type 0 where
   pub step : after ≡ record_step words line (reading false upper image 0)
-  pub column_is : column_of after.number line word ≡ column_of after.number line (refused_word words upper line image 0 (count_of line / 2))
+  pub column_is : IfErr r (λ f. fault_column f line ≡ column_of after.number line (refused_word words upper line image 0 (count_of line / 2)))
 
-module _ (words : ℕ) (line : List ℕ) (upper : ℕ) (image : List ℕ) where
-  pub taken_plain : (after : Reading) → after ≡ record_step words line (reading false upper image 0) → after.number ≡ 0 → RecordTaken words line upper image after 0
-  taken_plain after e z = record { step = e; column_is = no_word_low after.number line _ _ (omega arith) }
+module _ (words : ℕ) (line : List ℕ) (upper : ℕ) (image bytes : List ℕ) where
+  pub taken_end : Tells line bytes End → RecordTaken words line upper image (reading true upper image 0) (Ok tt)
+  taken_end t = record { step = record_end words line upper image _ (sound_byte line bytes t.sound 3 (omega arith)) (λ z. omega (arith, t.kind)) t.kind; column_is = tt }
 
-  pub taken_data : (kind : ℕ) → ByteRead line 3 kind → kind ≡ 0 → (image' : List ℕ) (number word : ℕ) → stopped upper image' number word ≡ gave words upper line image 0 (count_of line / 2)
-      → RecordTaken words line upper image (reading false upper image' number) word
-  taken_data kind k z image' number word g =
-      record { step = record_data words line upper image kind k z image' number (ap (λ x. x.after) g); column_is = ap (column_of number line) (ap (λ x. x.word) g) }
+  pub taken_upper : (half : ℕ) → Tells line bytes (Upper half) → RecordTaken words line upper image (reading false half image 0) (Ok tt)
+  taken_upper half t =
+      let z : get_or bytes 3 0 ≡ 0 → ⊥ = λ e. omega (arith, t.kind.0) in
+      let o : get_or bytes 3 0 ≡ 1 → ⊥ = λ e. omega (arith, t.kind.0) in
+      record {
+        step = rw (t.kind.1) (record_upper words line upper image _ (sound_byte line bytes t.sound 3 (omega arith)) z o _ _ (sound_high line bytes t.sound z o) (sound_low line bytes t.sound z o));
+        column_is = tt;
+      }
+
+  module _ (count offset : ℕ) (t : Tells line bytes (Data count offset)) (image' : List ℕ) where
+    module _ (r : Result (Unit {0}) RefusedWord) (given : GivesRecord words upper count offset bytes image image' r) where
+      gives : given_told upper image' (count / 2) r ≡ gave words upper line image 0 (count_of line / 2)
+      gives = given line t.sound t.kind.1 (t.kind.2 ∙ sound_offset line bytes t.sound)
+
+      step_data : (number : ℕ) → reading false upper image' number ≡ give_words words upper line image 0 (count_of line / 2)
+          → reading false upper image' number ≡ record_step words line (reading false upper image 0)
+      step_data number g = record_data words line upper image _ (sound_byte line bytes t.sound 3 (omega arith)) t.kind.0 image' number g
+
+    pub taken_data : GivesRecord words upper count offset bytes image image' (Ok tt) → RecordTaken words line upper image (reading false upper image' 0) (Ok tt)
+    taken_data g = record { step = step_data (Ok tt) g 0 (ap (λ x. x.after) (gives (Ok tt) g)); column_is = tt }
+
+    pub taken_word : (w : RefusedWord) → GivesRecord words upper count offset bytes image image' (Err w)
+        → RecordTaken words line upper image (reading false upper image' (number_of w.refusal)) (Err (Word w))
+    taken_word w g = record { step = step_data (Err w) g (number_of w.refusal) (ap (λ x. x.after) told); column_is = of_word w line near.0 near.1 ∙ ap (column_of (number_of w.refusal) line) (ap (λ x. x.word) told) }
+      where
+        told : stopped upper image' (number_of w.refusal) w.word ≡ gave words upper line image 0 (count_of line / 2)
+        told = gives (Err w) g
+
+        same : number_of w.refusal ≡ (give_words words upper line image 0 (count_of line / 2)).number
+        same = ap (λ x. x.after.number) told
+
+        near : (7 ≤ number_of w.refusal) × (number_of w.refusal ≤ 9)
+        near = rw same (give_range words upper line image (count_of line / 2) (λ z. absurd (omega (arith, number_of_positive w.refusal, same, z))))
 
 -- ---- a line
 
-pub record LineTaken (words : ℕ) (line : List ℕ) (r after : Reading) (word : ℕ) : Type 0 where
+pub record LineTaken (words : ℕ) (line : List ℕ) (r after : Reading) (result : Result (Unit {0}) Fault) : Type 0 where
   pub step : after ≡ line_step words line r
-  pub column_is : column_of after.number line word ≡ line_column words line r
+  pub column_is : IfErr result (λ f. fault_column f line ≡ line_column words line r)
 
 module _ (words : ℕ) (line : List ℕ) (ended : Bool) (upper : ℕ) (image : List ℕ) where
-  -- the column by the number that the step comes to
-  column_by : (after : Reading) → after ≡ line_step words line (reading ended upper image 0) → (word : ℕ)
-      → column_of after.number line word ≡ column_of after.number line (refused_word words upper line image 0 (count_of line / 2))
-      → LineTaken words line (reading ended upper image 0) after word
-  unfolding line_column
-  column_by after e word c =
-      record { step = e; column_is = c ∙ ap (λ s. column_of s.number line (refused_word words upper line image 0 (count_of line / 2))) e }
+  pub line_skipped : length line ≡ 0 → LineTaken words line (reading ended upper image 0) (reading ended upper image 0) (Ok tt)
+  line_skipped e = record { step = step_empty words line ended upper image e; column_is = tt }
 
-  pub line_skipped : length line ≡ 0 → LineTaken words line (reading ended upper image 0) (reading ended upper image 0) 0
-  line_skipped e = column_by _ (step_empty words line ended upper image e) 0 (no_word_low 0 line _ _ (omega arith))
+  -- the column by the number that the step comes to
+  column_by : (after : Reading) → after ≡ line_step words line (reading ended upper image 0) → (column : ℕ)
+      → column ≡ column_of after.number line (refused_word words upper line image 0 (count_of line / 2)) → column ≡ line_column words line (reading ended upper image 0)
+  unfolding line_column
+  column_by after e column c = c ∙ ap (λ s. column_of s.number line (refused_word words upper line image 0 (count_of line / 2))) e
 
   module _ (some : length line ≡ 0 → ⊥) where
-    pub line_after : ended ≡ true → LineTaken words line (reading ended upper image 0) (reading ended upper image 11) 0
-    line_after t = column_by _ (step_after words line ended upper image some t) 0 (no_word_high 11 line _ _ (omega arith))
+    pub line_after : ended ≡ true → LineTaken words line (reading ended upper image 0) (reading ended upper image 11) (Err (Line AfterEndRecord))
+    line_after t =
+        let s = step_after words line ended upper image some t in
+        record { step = s; column_is = column_by _ s _ (of_line AfterEndRecord line _ (λ z. omega arith) (inr (omega arith))) }
 
-    module _ (going : ended ≡ false) (number : ℕ) (n : number ≡ line_number line) where
-      pub line_bad : (number ≡ 0 → ⊥) → LineTaken words line (reading ended upper image 0) (reading ended upper image number) 0
-      line_bad z =
-          let m : line_number line ≤ 6 = line_number_most line in
-          column_by _ (step_bad words line ended upper image some going number n z) 0 (no_word_low number line _ _ (omega arith))
+    module _ (going : ended ≡ false) where
+      pub line_bad : (e : Refusal) → number_of e ≡ line_number line → LineTaken words line (reading ended upper image 0) (reading ended upper image (number_of e)) (Err (Line e))
+      line_bad e n =
+          let z : number_of e ≡ 0 → ⊥ = λ z. absurd (omega (arith, number_of_positive e, z)) in
+          let s = step_bad words line ended upper image some going (number_of e) n z in
+          record { step = s; column_is = column_by _ s _ (of_line e line _ z (inl (omega (arith, n, line_number_most line)))) }
 
-      pub line_record : number ≡ 0 → (after : Reading) (word : ℕ) → RecordTaken words line upper image after word → LineTaken words line (reading ended upper image 0) after word
-      line_record z after word t = column_by after (step_record words line ended upper image some going number n z after t.step) word t.column_is
+      pub line_record : 0 ≡ line_number line → (after : Reading) (r : Result (Unit {0}) Fault) → RecordTaken words line upper image after r → LineTaken words line (reading ended upper image 0) after r
+      line_record n after r t = record { step = s; column_is = by r t.column_is }
+        where
+          s : after ≡ line_step words line (reading ended upper image 0)
+          s = step_record words line ended upper image some going 0 n refl after t.step
+
+          by : (r : Result (Unit {0}) Fault) → IfErr r (λ f. fault_column f line ≡ column_of after.number line (refused_word words upper line image 0 (count_of line / 2)))
+              → IfErr r (λ f. fault_column f line ≡ line_column words line (reading ended upper image 0))
+          by (Ok x) c = tt
+          by (Err f) c = column_by after s _ c

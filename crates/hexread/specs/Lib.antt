@@ -4,6 +4,7 @@ pub mod Step
 pub mod Column
 pub mod Reader
 pub mod LawsLine
+pub mod LawsFault
 pub mod LawsStand
 pub mod LawsDecode
 pub mod LawsGive

@@ -1,5 +1,6 @@
 -- Reading HEX text into an image ('HEX text'; refusals 13, 12, 1, then line by line 11, 2 to 9, last 10).
-use Rattle.std.specs.Prelude.{ℕ, ◌+◌, ◌≡◌, false, List, [], ◌∷◌, leb, eqb, length, replicate}
+use Rattle.std.specs.Prelude.{ℕ, ◌+◌, ◌≡◌, false, Result, Ok, Err, List, [], ◌∷◌, leb, eqb, length, replicate}
+use Rattle.refusal.specs.Refusal.{number_of}
 use Rattle.words.specs.Choice.{unless}
 use Rattle.words.specs.Word.{not_given}
 use Rattle.device.specs.declared.Device.{Device}
@@ -8,7 +9,7 @@ use Rattle.device.specs.Memory.{reading_tail}
 use Rattle.lines.specs.Lines.{lines_of}
 use Rattle.hexread.specs.Step.{Reading, line_step}
 use Rattle.hexread.specs.Column.{line_column}
-use Rattle.hexread.specs.declared.ReadHex.{ReadHex}
+use Rattle.hexread.specs.declared.Misread.{Misread}
 
 -- the longest text
 abbrev pub most_text : ℕ
@@ -50,6 +51,17 @@ text_read d text image =
     (unless (eqb (length image) (d.words + reading_tail)) (record { number = 12; line = 0; column = 0; image = image })
     (unless (leb (length text) most_text) (refused_at d.words 1 0 0)
     (read_lines d.words (lines_of text) 1 (begun d.words))))
+
+-- 0, or the number of a refusal, the line that it stands at and the column in it, both from 1 and 0 where no line is to blame
+pub record ReadHex : Type 0 where
+  pub number : ℕ
+  pub line : ℕ
+  pub column : ℕ
+
+-- an answer, told so
+abbrev pub read_told : Result (Unit {0}) Misread → ReadHex
+read_told (Ok _) = record { number = 0; line = 0; column = 0 }
+read_told (Err m) = record { number = number_of m.refusal; line = m.line; column = m.column }
 
 -- what the call answers
 unfoldable pub read_answer : Device → (text image : List ℕ) → ReadHex

@@ -1,11 +1,10 @@
 -- What one line does to a reading ('HEX text'; refusals 11, 2 to 9).
-use Rattle.std.specs.Prelude.{ℕ, zero, suc, ◌+◌, ◌*◌, ◌/◌, Bool, true, false, List, eqb, length, get_or, set}
+use Rattle.std.specs.Prelude.{ℕ, zero, suc, ◌+◌, ◌*◌, ◌/◌, Bool, true, false, Option, Some, None, List, eqb, length, get_or, set}
 use Rattle.words.specs.Choice.{pick, unless}
 use Rattle.words.specs.Word.{not_given, is_word}
 use Rattle.words.specs.Address.{config_base, halved, entry_of}
 use Rattle.words.specs.declared.ByteAddress.{ByteAddress}
-use Rattle.words.specs.declared.Place.{Place}
-use Rattle.words.specs.declared.Place.TheVariants.{At, Nowhere}
+use Rattle.words.specs.declared.WordAddress.{WordAddress}
 use Rattle.device.specs.Memory.{reading_tail, programmable}
 use Rattle.hexread.specs.Line.{byte_at, count_of, offset_of, type_of, line_number}
 
@@ -19,10 +18,10 @@ word_of line j = byte_at line (4 + 2 * j) + 256 * byte_at line (5 + 2 * j)
 unfoldable pub byte_address : (upper : ℕ) → List ℕ → ℕ → ByteAddress
 byte_address upper line j = record { 0 = upper * 65536 + offset_of line + 2 * j }
 
--- the entry of a place; one past the last entry where there is no word
-unfoldable pub entry_at : (words : ℕ) → Place → ℕ
-entry_at words (At a) = entry_of config_base words reading_tail a.0
-entry_at words Nowhere = words + reading_tail
+-- the entry of an address; one past the last entry where there is no word
+unfoldable pub entry_at : (words : ℕ) → Option WordAddress → ℕ
+entry_at words (Some a) = entry_of config_base words reading_tail a.0
+entry_at words None = words + reading_tail
 
 unfoldable pub entry_of_word : (words upper : ℕ) → List ℕ → ℕ → ℕ
 entry_of_word words upper line j = entry_at words (halved (byte_address upper line j))

@@ -1,93 +1,122 @@
 // The words of a data record, given to an image one after another.
-ghost use Rattle.std.specs.Prelude.{◌≡◌, ◌+◌, ◌*◌, ◌<◌, length, get_or};
+ghost use Rattle.std.specs.Prelude.{◌≡◌, ℕ, ◌+◌, ◌*◌, ◌/◌, ◌<◌, Option, Some, length, get_or};
+ghost use Rattle.words.specs.declared.WordAddress.{WordAddress};
 ghost use Rattle.device.specs.Memory.{reading_tail};
 ghost use Rattle.hexread.specs.Step.{entry_at};
-ghost use Rattle.hexread.specs.LawsGive.{Gives};
-ghost use Rattle.hexread.specs.LawsGiveProgram.{FirstEntry};
+ghost use Rattle.hexread.specs.LawsGive.{entry_by, entry_given, Gives, GivesRecord};
 
-use crate::line::offset_of;
+use crate::fault::RefusedWord;
+use crate::line::Bytes;
 use device::READING_TAIL;
-use words::{ByteAddress, CONFIG_BASE, NOT_GIVEN, Place, WORD_LIMIT, WordAddress};
+use refusal::Refusal;
+use words::{ByteAddress, CONFIG_BASE, NOT_GIVEN, WORD_LIMIT, WordAddress};
 
-// 0, or the first of 7, 8, 9 that holds, and the word that is refused; with 0, how many words there are.
-#[derive(Clone, Copy)]
-pub(crate) struct Given {
-    pub number: u8,
-    pub word: u8,
+// Gives the words of a data record, whatever line its bytes are those of.
+// Where all of them lie in program space, the entries follow one another as the words do.
+pub(crate) fn give_record(
+    words: u16,
+    upper: u32,
+    count: u8,
+    offset: u32,
+    bytes: &Bytes,
+    image: &mut [u16],
+) -> Result<(), RefusedWord>
+    requires { length image.old ≡ words + reading_tail }
+    ensures { GivesRecord words upper count offset bytes.now image.old image.new result }
+{
+    let n = count / 2;
+    let first = entry_of(words, upper, offset, 0);
+    if first + usize::from(n) <= usize::from(words) {
+        return give(n, bytes, image, |j| Some(first + usize::from(j)));
+    }
+    give(
+        n,
+        bytes,
+        image,
+        |j| programmable_entry(words, upper, offset, j),
+    )
 }
 
-// Gives words until one is refused, whatever line the bytes are those of.
-pub(crate) fn give_words(words: u16, upper: u32, bytes: &[u8], image: &mut [u16]) -> Given
-    requires { (length bytes.now ≡ 260) × (length image.old ≡ words + reading_tail) }
-    ensures { Gives words upper bytes.now image.old image.new result.number result.word }
+// The entry of word j of a record, if a word can be given to it.
+fn programmable_entry(words: u16, upper: u32, offset: u32, j: u8) -> Option<usize>
+    ensures { result ≡ entry_given words upper offset j }
 {
-    let offset = offset_of(bytes);
-    let n = bytes[0] / 2;
-    let mut j: u8 = 0;
-    while j < n {
-        let entry = entry_at(words, words::address::halve(byte_address(upper, offset, j)));
-        if device::programmable(words, entry) {} else {
-            return Given { number: 7, word: j };
-        }
-        let word = word_of(bytes, j);
-        if WORD_LIMIT <= word {
-            return Given { number: 8, word: j };
-        }
-        if image[entry] != NOT_GIVEN {
-            return Given { number: 9, word: j };
-        }
-        image[entry] = word;
-        j += 1;
+    let entry = entry_of(words, upper, offset, j);
+    if device::programmable(words, entry) {
+        Some(entry)
+    } else {
+        None
     }
-    Given { number: 0, word: j }
+}
+
+// Gives n words to the entries that a function tells, until one is refused, as one is that has no entry.
+fn give<F: Fn(u8) -> Option<usize>>(
+    n: u8,
+    bytes: &Bytes,
+    image: &mut [u16],
+    entry: F,
+) -> Result<(), RefusedWord>
+    requires few { n < 128 }
+    requires called { (j : ℕ) → j < n → F.pre entry j }
+    requires inside { (j i : ℕ) → j < n → F.post entry j (Some i) → i < length image.old }
+    ensures { Gives (F.post entry) n bytes.now image.old image.new result }
+{
+    for j in 0..n {
+        let Some(i) = entry(j) else {
+            return Err(RefusedWord {
+                refusal: Refusal::NoSuchWord,
+                word: j,
+            });
+        };
+        let word = word_at(bytes, j);
+        if WORD_LIMIT <= word {
+            return Err(RefusedWord {
+                refusal: Refusal::WordTooLarge,
+                word: j,
+            });
+        }
+        if image[i] != NOT_GIVEN {
+            return Err(RefusedWord {
+                refusal: Refusal::GivenBefore,
+                word: j,
+            });
+        }
+        image[i] = word;
+    }
+    Ok(())
+}
+
+// The entry of word j of a record; one past the last entry where there is no word.
+fn entry_of(words: u16, upper: u32, offset: u32, j: u8) -> usize
+    ensures { result ≡ entry_by words upper offset j }
+{
+    entry_at(words, words::address::halve(byte_address(upper, offset, j)))
 }
 
 // The address of the first byte of word j, where nothing wraps at 64 KiB.
 fn byte_address(upper: u32, offset: u32, j: u8) -> ByteAddress
     ensures { result ≡ record { 0 = upper * 65536 + offset + 2 * j } }
 {
-    ByteAddress((upper as u64) * 65536 + (offset as u64) + 2 * (j as u64))
+    ByteAddress(u64::from(upper) * 65536 + u64::from(offset) + 2 * u64::from(j))
 }
 
-// The entry of a place; one past the last entry where there is no word.
-fn entry_at(words: u16, place: Place) -> usize
+// The entry of an address; one past the last entry where there is no word.
+fn entry_at(words: u16, place: Option<WordAddress>) -> usize
     ensures { result ≡ entry_at words place }
 {
     match place {
-        Place::At(a) => words::address::entry_of(
-            WordAddress(CONFIG_BASE),
-            words,
-            READING_TAIL as u8,
-            a,
-        ),
-        Place::Nowhere => (words as usize) + READING_TAIL,
+        Some(a) => words::address::entry_of(WordAddress(CONFIG_BASE), words, READING_TAIL as u8, a),
+        None => usize::from(words) + READING_TAIL,
     }
 }
 
-// Word j of a record's bytes.
-fn word_of(bytes: &[u8], j: u8) -> u16
-    requires { (length bytes.now ≡ 260) × (j < 128) }
+// Word j of a record's bytes, low byte first.
+fn word_at(bytes: &Bytes, j: u8) -> u16
+    requires { j < 128 }
     ensures { result ≡ get_or bytes.now (4 + 2 * j) 0 + 256 * get_or bytes.now (5 + 2 * j) 0 }
 {
-    word_at(bytes, j as usize)
-}
-
-// The same by a place as wide as an index, low byte first.
-pub(crate) fn word_at(bytes: &[u8], j: usize) -> u16
-    requires { (length bytes.now ≡ 260) × (j < 128) }
-    ensures { result ≡ get_or bytes.now (4 + 2 * j) 0 + 256 * get_or bytes.now (5 + 2 * j) 0 }
-{
-    let at = 2 * j;
+    let at = 2 * usize::from(j);
     let low = bytes[4 + at];
     let high = bytes[5 + at];
-    (low as u16) + 256 * (high as u16)
-}
-
-// The entry of a record's first word, whatever line the bytes are those of.
-pub(crate) fn first_entry(words: u16, upper: u32, bytes: &[u8]) -> usize
-    requires { length bytes.now ≡ 260 }
-    ensures { FirstEntry words upper bytes.now result }
-{
-    let offset = offset_of(bytes);
-    entry_at(words, words::address::halve(byte_address(upper, offset, 0)))
+    u16::from(low) + 256 * u16::from(high)
 }

@@ -2,18 +2,20 @@
 #![tactic(auto)]
 
 mod column;
+mod digits;
+mod fault;
 mod give;
-mod give_program;
 mod line;
 mod read;
-mod step;
+mod reader;
 
 pub use read::read_hex;
+use refusal::Refusal;
 
-// 0, or the number of a refusal, the line that it stands at and the column in it, both from 1 and 0 where no line is to blame.
-#[derive(Clone, Copy)]
-pub struct ReadHex {
-    pub number: u8,
+// Why a text is refused, and the line and the column in it, both from 1 and 0 where no line is to blame.
+#[derive(Clone, Copy, Debug, PartialEq, Eq)]
+pub struct Misread {
+    pub refusal: Refusal,
     pub line: u32,
     pub column: u32,
 }

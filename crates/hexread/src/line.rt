@@ -1,124 +1,105 @@
 // One line of HEX text: its bytes, and whether it is a sound record.
-ghost use Rattle.std.specs.Prelude.{◌≡◌, ◌+◌, ◌*◌, ◌≤◌, length};
-ghost use Rattle.words.specs.Lists.{build};
-ghost use Rattle.numerals.specs.Hex.{digit_of};
-ghost use Rattle.hexread.specs.LawsLine.{ByteRead, kind_number};
-ghost use Rattle.hexread.specs.LawsDecode.{OffsetOf, Decoded, Judged};
+ghost use Rattle.std.specs.Prelude.{◌≡◌, ◌+◌, ◌*◌, ◌≤◌, length, get_or};
+ghost use Rattle.words.specs.Choice.{below};
+ghost use Rattle.hexread.specs.Line.{byte_at};
+ghost use Rattle.hexread.specs.LawsDecode.{Decoded, Kind, Judged};
 
-// 0 for a sound record, whose bytes are then decoded, or the first of 2 to 6 that holds.
-pub(crate) fn judge_line(digits: &[u8; 256], line: &[u8], bytes: &mut [u8]) -> u8
-    requires { (digits.now ≡ build 256 digit_of) × (length bytes.old ≡ 260) }
-    ensures { Judged line.now result bytes.new }
-{
-    if line.len() == 0 {
-        return 2;
-    }
-    if line[0] != b':' {
-        return 2;
-    }
-    let count = count_of(digits, line);
-    if 256 <= count {
-        return 2;
-    }
-    let n = (count as usize) + 5;
-    if line.len() != 1 + 2 * n {
-        return 2;
-    }
-    let sum = decode(digits, line, n, bytes);
-    if 256 <= sum {
-        return 2;
-    }
-    if sum != 0 {
-        return 3;
-    }
-    judge_kind(bytes[3], offset_of(bytes), count)
+use crate::digits::Digits;
+use refusal::Refusal;
+
+// The bytes of the longest record: LL, two of address, type, LL of data, sum.
+pub(crate) type Bytes = [u8; 260];
+
+// What a sound record tells.
+#[derive(Clone, Copy)]
+pub(crate) enum Record {
+    // its bytes of data, and the address of the first within its 64 KiB
+    Data { count: u8, offset: u32 },
+    End,
+    // the upper half of the addresses that follow
+    Upper(u32),
 }
 
-// The value of a character as a hex digit, from a table that stays where it is.
-pub(crate) fn digit(digits: &[u8; 256], c: u8) -> u8
-    requires { digits.now ≡ build 256 digit_of }
-    ensures { result ≡ digit_of c }
-{
-    digits[c as usize]
-}
-
-// The first byte after the colon; 256 where two digits do not stand there.
-pub(crate) fn count_of(digits: &[u8; 256], line: &[u8]) -> u16
-    requires { digits.now ≡ build 256 digit_of }
-    ensures { ByteRead line.now 0 result }
-{
-    if line.len() < 3 {
-        return 256;
-    }
-    let high = digit(digits, line[1]);
-    let low = digit(digits, line[2]);
-    if 16 <= (high | low) {
-        return 256;
-    }
-    16 * (high as u16) + (low as u16)
-}
-
-// Decodes the n bytes after the colon. Answers their sum mod 256; 256 if one of them is not two digits.
-fn decode(digits: &[u8; 256], line: &[u8], n: usize, bytes: &mut [u8]) -> u16
-    requires { (digits.now ≡ build 256 digit_of) × (n ≤ 260) × (length line.now ≡ 1 + 2 * n) × (length bytes.old ≡ 260) }
-    ensures { Decoded line.now n result bytes.new }
-{
-    let mut sum: u32 = 0;
-    let mut j = 0;
-    while j < n {
-        let high = digit(digits, line[1 + 2 * j]);
-        let low = digit(digits, line[2 + 2 * j]);
-        if 16 <= (high | low) {
-            return 256;
+impl Digits {
+    // A sound record, whose bytes are then decoded, or the first of 2 to 6 that holds.
+    pub(crate) fn judge_line(&self, line: &[u8], bytes: &mut Bytes) -> Result<Record, Refusal>
+        ensures { Judged line.now result bytes.new }
+    {
+        if line.is_empty() || line[0] != b':' {
+            return Err(Refusal::NotARecord);
         }
-        let b = 16 * high + low;
-        bytes[j] = b;
-        sum += b as u32;
-        j += 1;
+        let Some(count) = self.count_of(line) else {
+            return Err(Refusal::NotARecord);
+        };
+        let n = usize::from(count) + 5;
+        if line.len() != 1 + 2 * n {
+            return Err(Refusal::NotARecord);
+        }
+        let Some(sum) = self.decode(line, n, bytes) else {
+            return Err(Refusal::NotARecord);
+        };
+        if sum != 0 {
+            return Err(Refusal::WrongSum);
+        }
+        record_of(bytes, count)
     }
-    (sum % 256) as u16
+
+    // The first byte after the colon.
+    fn count_of(&self, line: &[u8]) -> Option<u8>
+        ensures { result ≡ below 256 (byte_at line.now 0) }
+    {
+        if line.len() < 3 {
+            return None;
+        }
+        self.byte(line[1], line[2])
+    }
+
+    // Decodes the n bytes after the colon. Answers their sum mod 256, if each of them is two digits.
+    fn decode(&self, line: &[u8], n: usize, bytes: &mut Bytes) -> Option<u8>
+        requires { (n ≤ 260) × (length line.now ≡ 1 + 2 * n) }
+        ensures { Decoded line.now n result bytes.new }
+    {
+        let mut sum: u32 = 0;
+        for j in 0..n {
+            let b = self.byte(line[1 + 2 * j], line[2 + 2 * j])?;
+            bytes[j] = b;
+            sum += u32::from(b);
+        }
+        Some((sum % 256) as u8)
+    }
+}
+
+// What a record's bytes tell, or the first of 4, 5, 6 that type, address and count give.
+fn record_of(bytes: &Bytes, count: u8) -> Result<Record, Refusal>
+    ensures { Kind bytes.now count result }
+{
+    let offset = offset_of(bytes);
+    match bytes[3] {
+        0 => {
+            if offset % 2 != 0 || count % 2 != 0 {
+                return Err(Refusal::OddData);
+            }
+            Ok(Record::Data { count, offset })
+        }
+        1 => {
+            if offset != 0 || count != 0 {
+                return Err(Refusal::WrongLengthOrAddress);
+            }
+            Ok(Record::End)
+        }
+        4 => {
+            if offset != 0 || count != 2 {
+                return Err(Refusal::WrongLengthOrAddress);
+            }
+            Ok(Record::Upper(256 * u32::from(bytes[4]) + u32::from(bytes[5])))
+        }
+        _ => Err(Refusal::UnknownType),
+    }
 }
 
 // The address of a record's first byte within its 64 KiB.
-pub(crate) fn offset_of(bytes: &[u8]) -> u32
-    requires { length bytes.now ≡ 260 }
-    ensures { OffsetOf bytes.now result }
+fn offset_of(bytes: &Bytes) -> u32
+    ensures { result ≡ 256 * get_or bytes.now 1 0 + get_or bytes.now 2 0 }
 {
-    let high = bytes[1];
-    let low = bytes[2];
-    256 * (high as u32) + (low as u32)
-}
-
-// 0, or the first of 4, 5, 6 that type, address and count give.
-fn judge_kind(kind: u8, offset: u32, count: u16) -> u8
-    ensures { result ≡ kind_number kind offset count }
-{
-    if kind == 0 {
-        if offset % 2 != 0 {
-            return 6;
-        }
-        if count % 2 != 0 {
-            return 6;
-        }
-        return 0;
-    }
-    if kind == 1 {
-        if offset != 0 {
-            return 5;
-        }
-        if count != 0 {
-            return 5;
-        }
-        return 0;
-    }
-    if kind == 4 {
-        if offset != 0 {
-            return 5;
-        }
-        if count != 2 {
-            return 5;
-        }
-        return 0;
-    }
-    4
+    256 * u32::from(bytes[1]) + u32::from(bytes[2])
 }

@@ -1,134 +1,72 @@
 // Reading HEX text into an image: the lines one after another, each looked at once.
-ghost use Rattle.std.specs.Prelude.{◌≡◌, ◌+◌, ◌≤◌, length, replicate};
-ghost use Rattle.words.specs.Word.{not_given};
+ghost use Rattle.std.specs.Prelude.{◌≡◌, ◌+◌, ◌≤◌, length};
 ghost use Rattle.device.specs.Memory.{reading_tail};
-ghost use Rattle.hexread.specs.Reader.{most_text, HexRead};
-ghost use Rattle.hexread.specs.LawsReader.{LinesRead, LinesStopped};
+ghost use Rattle.hexread.specs.Reader.{most_text, read_told, HexRead};
+ghost use Rattle.hexread.specs.LawsReader.{LinesRead};
 
-use crate::column::column_in;
-use crate::step::take_line;
-use crate::{MOST_TEXT, ReadHex};
+use crate::reader::Reader;
+use crate::{MOST_TEXT, Misread};
 use device::{Device, READING_TAIL};
 use lines::line_from;
+use refusal::Refusal;
 use words::NOT_GIVEN;
 
 // Reads the words that a HEX text gives. A refused text leaves every entry 'not given'; 12 and 13 leave the image as it was.
-pub fn read_hex(d: Device, text: &[u8], image: &mut [u16]) -> ReadHex
-    ensures { HexRead d text.now image.old result image.new }
+pub fn read_hex(d: Device, text: &[u8], image: &mut [u16]) -> Result<(), Misread>
+    ensures { HexRead d text.now image.old (read_told result) image.new }
 {
-    if device::judge(d) != 0 {
-        return ReadHex {
-            number: 13,
-            line: 0,
-            column: 0,
-        };
+    if let Err(refusal) = device::judge(d) {
+        return Err(at_no_line(refusal));
     }
-    if image.len() != (d.words as usize) + READING_TAIL {
-        return ReadHex {
-            number: 12,
-            line: 0,
-            column: 0,
-        };
+    if image.len() != usize::from(d.words) + READING_TAIL {
+        return Err(at_no_line(Refusal::BufferLength));
     }
-    clear(image);
+    image.fill(NOT_GIVEN);
     if MOST_TEXT < text.len() {
-        return ReadHex {
-            number: 1,
-            line: 0,
-            column: 0,
-        };
+        return Err(at_no_line(Refusal::TextTooLong));
     }
-    let r = read_text(d.words, text, image);
-    if r.number != 0 {
-        clear(image);
+    let read = read_lines(d.words, text, image);
+    if read.is_err() {
+        image.fill(NOT_GIVEN);
     }
-    r
+    read
 }
 
-// The lines of a text until one is refused, and then its column.
-fn read_text(words: u16, text: &[u8], image: &mut [u16]) -> ReadHex
-    requires { (length image.old ≡ words + reading_tail) × (length text.now ≤ most_text) }
-    ensures { LinesRead words text.now image.old result image.new }
+// A refusal for which no line is to blame.
+fn at_no_line(refusal: Refusal) -> Misread
+    ensures { result ≡ record { refusal = refusal; line = 0; column = 0 } }
 {
-    let s = read_lines(words, text, image);
-    if s.line == 0 {
-        return ReadHex {
-            number: s.number,
-            line: 0,
-            column: 0,
-        };
-    }
-    ReadHex {
-        number: s.number,
-        line: s.line,
-        column: column_in(text, s.line, s.number, s.word),
-    }
-}
-
-// Where the lines stopped: 0, or a refusal, its line, and the refused word, for 7 to 9.
-#[derive(Clone, Copy)]
-struct Stop {
-    number: u8,
-    line: u32,
-    word: u8,
-}
-
-// The lines of a text until one is refused, with one table and one record's bytes for all of them; 10 if no end record came.
-fn read_lines(words: u16, text: &[u8], image: &mut [u16]) -> Stop
-    requires { (length image.old ≡ words + reading_tail) × (length text.now ≤ most_text) }
-    ensures { LinesStopped words text.now image.old result.number result.line result.word image.new }
-{
-    let digits = numerals::hex::digits();
-    let mut bytes = [0u8; 260];
-    let mut at = 0;
-    let mut line: u32 = 0;
-    let mut ended = false;
-    let mut upper: u32 = 0;
-    while at < text.len() {
-        let next = line_from(text, at, line);
-        let stop = next.stop;
-        let s = take_line(
-            &digits,
-            words,
-            &text[at..stop],
-            ended,
-            upper,
-            &mut bytes,
-            image,
-        );
-        line = next.line;
-        if s.number != 0 {
-            return Stop {
-                number: s.number,
-                line,
-                word: s.word,
-            };
-        }
-        ended = s.ended;
-        upper = s.upper;
-        at = next.at;
-    }
-    if ended {
-        return Stop {
-            number: 0,
-            line: 0,
-            word: 0,
-        };
-    }
-    Stop {
-        number: 10,
+    Misread {
+        refusal,
         line: 0,
-        word: 0,
+        column: 0,
     }
 }
 
-// Makes every entry 'not given'.
-fn clear(image: &mut [u16])
-    ensures { image.new ≡ replicate (length image.old) not_given }
+// The lines of a text until one is refused, whose column is looked for then; 10 if no end record came.
+fn read_lines(words: u16, text: &[u8], image: &mut [u16]) -> Result<(), Misread>
+    requires { (length image.old ≡ words + reading_tail) × (length text.now ≤ most_text) }
+    ensures { LinesRead words text.now image.old (read_told result) image.new }
 {
-    let mut i = 0;
-    while i < image.len() {
-        image[i] = NOT_GIVEN;
-        i += 1;
+    let mut reader = Reader::new(words);
+    let mut at = 0;
+    let mut number: u32 = 0;
+    while at < text.len() {
+        let next = line_from(text, at, number);
+        let line = &text[at..next.stop];
+        if let Err(fault) = reader.take_line(line, image) {
+            return Err(Misread {
+                refusal: fault.refusal(),
+                line: next.line,
+                column: fault.column(line),
+            });
+        }
+        at = next.at;
+        number = next.line;
+    }
+    if reader.ended() {
+        Ok(())
+    } else {
+        Err(at_no_line(Refusal::NoEndRecord))
     }
 }

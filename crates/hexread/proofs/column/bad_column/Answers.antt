@@ -1,34 +1,18 @@
 -- All characters passed can stand.
 use native.Mathlib.Omega.{arith}
-use Rattle.hexread.specs.LawsStand.{standing_none, standing_more, bad_here, bad_end, most_of}
+use Rattle.std.proofs.Common.{◌≡◌, length}
+use Rattle.hexread.specs.LawsStand.{standing_more, bad_here, bad_end}
 use Rattle.hexread.proofs.column.bad_column.Goals as goal
 
-pub loop-i-init : goal.loop-i-init
-loop-i-init c = standing_none _
-
 pub can_stand-requires : goal.can_stand-requires
-can_stand-requires c = (c.requires.0, c.loop-i-test.true, most_of _ _ c.count_of.ensures)
+can_stand-requires c = (omega arith, omega arith)
 
-pub overflow_add-result : goal.overflow_add-result
-overflow_add-result c = omega (arith, c.requires.1)
-
-pub overflow_cast-result : goal.overflow_cast-result
-overflow_cast-result c = omega (arith, c.requires.1)
-
-pub returns-else-can_stand : goal.returns-else-can_stand
-returns-else-can_stand c = bad_here _ _ c.loop-i.invariant c.loop-i-test.true _ c.can_stand.ensures c.if-can_stand.false
-
-pub overflow_add-i : goal.overflow_add-i
-overflow_add-i c = omega (arith, c.requires.1)
+pub returns-then-not-can_stand : goal.returns-then-not-can_stand
+returns-then-not-can_stand c = bad_here _ _ c.loop-i.invariant c.loop-i-test.true _ c.can_stand.ensures c.if-not-can_stand.true
 
 pub loop-i-preserved : goal.loop-i-preserved
-loop-i-preserved c = standing_more _ _ c.loop-i.invariant c.loop-i-test.true _ c.can_stand.ensures c.if-can_stand.true
-
-pub overflow_add-result-2 : goal.overflow_add-result-2
-overflow_add-result-2 c = omega (arith, c.requires.1, c.loop-i.invariant)
-
-pub overflow_cast-result-2 : goal.overflow_cast-result-2
-overflow_cast-result-2 c = omega (arith, c.requires.1, c.loop-i.invariant)
+loop-i-preserved c = standing_more _ _ c.loop-i.invariant c.loop-i-test.true _ c.can_stand.ensures c.if-not-can_stand.false
 
 pub returns : goal.returns
-returns c = bad_end _ _ c.loop-i.invariant c.loop-i-test.false
+returns c = let e : c.loop-i.i ≡ length c.args.line.now = omega (arith, c.loop-i.invariant.within) in
+    rw e at (bad_end _ _ c.loop-i.invariant c.loop-i-test.false)

@@ -1,11 +1,6 @@
 -- All characters passed can stand.
-use Prim.Native.Nat.{◌-◌}
-use lib.ListN.{length}
 use Rattle.hexread.specs.LawsStand.{Standing}
 use Rattle.hexread.proofs.column.bad_column.Given as goal
 
 abbrev pub invariant-loop-i : goal.invariant-loop-i
 invariant-loop-i l = Standing l.line l.i
-
-abbrev pub decreases-loop-i : goal.decreases-loop-i
-decreases-loop-i l = length l.line - l.i

@@ -1,12 +1,12 @@
--- A word's address has an entry, no address none.
-use Rattle.std.proofs.Common.{ap, ◌∙◌, sym}
+-- A word's entry, or none.
 use Rattle.hexread.specs.Step.{entry_at}
+use borrow.Author.Rules.{rules}
 use Rattle.hexread.proofs.give.entry_at.Goals as goal
 
-pub returns-in-At : goal.returns-in-At
+pub returns-in-Some : goal.returns-in-Some
 unfolding entry_at
-returns-in-At c = c.entry_of.ensures ∙ ap (entry_at _) (sym c.in-At.is)
+returns-in-Some c = search rules
 
-pub returns-in-Nowhere : goal.returns-in-Nowhere
+pub returns-in-None : goal.returns-in-None
 unfolding entry_at
-returns-in-Nowhere c = ap (entry_at c.args.words) (sym c.in-Nowhere.is)
+returns-in-None c = search rules

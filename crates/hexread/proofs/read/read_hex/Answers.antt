@@ -1,32 +1,23 @@
 -- A law for each way out; the image is blank before the first line and after a refusal.
-use mathlib.Core.Path.{sym, ◌∙◌}
-use Rattle.device.specs.LawsRecord.{ok_of_judged, bad_of_judged}
-use Rattle.hexread.specs.LawsReader.{hex_13, hex_12, hex_1, hex_read, hex_refused}
+use Rattle.std.proofs.Common.{sym, ◌∙◌}
+use Rattle.device.specs.LawsRecord.{ok_of_judged}
+use Rattle.hexread.specs.LawsReader.{hex_bad, hex_12, hex_1, hex_read, hex_refused, told_err, told_ok}
 use Rattle.hexread.proofs.read.read_hex.Goals as goal
 
-pub returns-then-judge-ne0 : goal.returns-then-judge-ne0
-returns-then-judge-ne0 c = hex_13 _ _ _ (bad_of_judged _ (λ e. c.if-judge-ne0.true (c.judge.ensures ∙ e)))
+pub returns-in-Err : goal.returns-in-Err
+returns-in-Err c = rw c.at_no_line.ensures (hex_bad _ _ _ _ c.in-Err.ensures)
 
-pub returns-then-image-d : goal.returns-then-image-d
-returns-then-image-d c = hex_12 _ _ _ (ok_of_judged _ (sym c.judge.ensures ∙ c.if-judge-ne0.false)) c.if-image-d.true
+pub returns-then-image-from : goal.returns-then-image-from
+returns-then-image-from c = rw c.at_no_line-then-image-from.ensures (hex_12 _ _ _ (ok_of_judged _ (sym c.in_default.ensures)) (rw c.from.ensures at c.if-image-from.true))
 
 pub returns-then-text-gt-MOST_TEXT : goal.returns-then-text-gt-MOST_TEXT
-returns-then-text-gt-MOST_TEXT c = hex_1 _ _ _ (ok_of_judged _ (sym c.judge.ensures
-    ∙ c.if-judge-ne0.false)) c.if-image-d.false c.if-text-gt-MOST_TEXT.true _ c.clear.ensures
+returns-then-text-gt-MOST_TEXT c = rw c.at_no_line-then-text-gt-MOST_TEXT.ensures
+    (hex_1 _ _ _ (ok_of_judged _ (sym c.in_default.ensures)) (rw c.from.ensures at c.if-image-from.false) c.if-text-gt-MOST_TEXT.true _ (c.fill.ensures.after (λ y h. h)))
 
-pub returns-then-r-ne0 : goal.returns-then-r-ne0
-returns-then-r-ne0 c = hex_refused _ _ _ (ok_of_judged _ (sym
-    c.judge.ensures
-    ∙ c.if-judge-ne0.false))
-    c.if-image-d.false
-    c.if-text-gt-MOST_TEXT.false _
-    c.clear.ensures _ _
-    c.read_text-r.ensures c.if-r-ne0.true _
-    c.read_text-r.auto.image c.clear-then-r-ne0.ensures
+pub returns-then-is_err : goal.returns-then-is_err
+returns-then-is_err c = hex_refused _ _ _ (ok_of_judged _ (sym c.in_default.ensures)) (rw c.from.ensures at c.if-image-from.false) c.if-text-gt-MOST_TEXT.false _ (c.fill.ensures.after (λ y h. h))
+    _ _ c.read_lines-read.ensures (told_err _ (sym c.is_err.ensures.value ∙ c.if-is_err.true)) _ c.read_lines-read.auto.image (c.fill-then-is_err.ensures.after (λ y h. h))
 
-pub returns-else-r-ne0 : goal.returns-else-r-ne0
-returns-else-r-ne0 c = hex_read _ _ _ (ok_of_judged _
-    (sym c.judge.ensures
-    ∙ c.if-judge-ne0.false))
-    c.if-image-d.false c.if-text-gt-MOST_TEXT.false _
-    c.clear.ensures _ _ c.read_text-r.ensures c.if-r-ne0.false
+pub returns-else-is_err : goal.returns-else-is_err
+returns-else-is_err c = hex_read _ _ _ (ok_of_judged _ (sym c.in_default.ensures)) (rw c.from.ensures at c.if-image-from.false) c.if-text-gt-MOST_TEXT.false _ (c.fill.ensures.after (λ y h. h))
+    _ _ c.read_lines-read.ensures (told_ok _ (sym c.is_err.ensures.value ∙ c.if-is_err.false))
