@@ -22,6 +22,7 @@ const ERASE_END: u16 = CONFIG_BASE + (READING_TAIL as u16);
 
 impl Board<'_> {
     // Whether program words can be neither read nor changed.
+    #[tactic(auto, unfolding(crate::specs::Effects::locked, device::specs::Memory::protected))]
     fn is_protected(&self) -> bool
         ensures { result ≡ locked (chip_at self.now) self.now.cells.now }
     {
@@ -46,6 +47,7 @@ impl Board<'_> {
     }
 
     // Whether the counter stands at a word of configuration space at which an erase acts.
+    #[tactic(auto, using(words::specs::LawsChoice::tests), unfolding(crate::specs::Effects::at_erase, words::specs::Lists::in_range))]
     fn erases_ids(&self) -> bool
         ensures { result ≡ at_erase (chip_at self.now) (place (target_of self.now)) }
     {

@@ -25,6 +25,7 @@ impl Board<'_> {
 }
 
 // Increment: the highest bit tells the space and stays, and the others count around.
+#[tactic(auto, using(words::specs::LawsAddress::successor_around))]
 pub(crate) fn next_address(a: WordAddress) -> WordAddress
     ensures { result.0 ≡ successor config_base a.0 }
 {
