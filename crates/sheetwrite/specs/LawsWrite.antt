@@ -1,8 +1,8 @@
 -- Laws of the writers: what is still to be written, and the answers.
 use Prim.Native.Nat.{ℕ, suc, ◌+◌, ◌-◌, ◌*◌, ◌/◌, ◌≤◌, ◌<◌}
-use Rattle.std.proofs.Common.{add-zero, zero-add, add-one, ◌∙◌, length-append, length-drop, drop_of_length-le, take_all, drop-drop}
+use Rattle.std.proofs.Common.{add-zero, zero-add, add-one, ◌∙◌, length-append, length-drop, length-take-le, get_or-take, get_or-drop, drop_of_length-le, take_all, drop-drop}
 use native.Mathlib.Omega.{arith}
-use Rattle.std.specs.Prelude.{◌≡◌, Bool, ◌&&◌, get_or, set, take, drop}
+use Rattle.std.specs.Prelude.{zero, ◌≡◌, Result, Ok, Err, Bool, ◌&&◌, get_or, set, take, drop}
 use Rattle.std.proofs.Math.Path.{refl, sym, ap}
 use Rattle.std.proofs.Math.Bool.{true, false}
 use mathlib.Core.List.{List, [], ◌∷◌, ◌++◌, append_assoc, append-nil}
@@ -13,26 +13,28 @@ use Rattle.std.proofs.lemmas.List.Edits.{sets-eq}
 use borrow.Author.Tests.{le-leb, lt-leb, leb-true}
 use Rattle.words.specs.Choice.{pick}
 use Rattle.words.specs.LawsChoice.{both, first_fails, second_fails}
-use Rattle.words.specs.LawsTests.{by_test, fails}
+use Rattle.words.specs.LawsTests.{by_test}
 use Rattle.words.specs.LawsLists.{sets_append}
 use Rattle.words.specs.Address.{config_base}
 use Rattle.numerals.specs.Text.{tab, lf}
 use Rattle.numerals.specs.Hex.{word_text}
 use Rattle.numerals.specs.LawsHex.{length_word_text}
 use Rattle.device.specs.declared.Device.{Device}
-use Rattle.device.specs.Record.{device_ok}
+use Rattle.refusal.specs.Refusal.{number_of}
+use Rattle.refusal.specs.declared.Refusal.{Refusal}
+use Rattle.refusal.specs.LawsRefusal.{answer_unique, number_of_positive}
+use Rattle.device.specs.Record.{device_ok, record_number}
+use Rattle.device.specs.LawsRecord.{Rules, rules_lem, breaks, judged_good, judged_bad}
 use Rattle.device.specs.Memory.{reading_tail, reading_ok}
 use Rattle.device.specs.LawsId.{with_id}
 use Rattle.table.specs.Table.{name_ok}
-use Rattle.judge.specs.declared.Sum.{Sum}
-use Rattle.judge.specs.Checksum.{config_sum, checksum_of, summed}
-use Rattle.judge.specs.LawsChecksum.{summed_0, summed_21}
+use Rattle.judge.specs.Checksum.{config_sum, checksum_of, summed, sum_told}
+use Rattle.judge.specs.LawsChecksum.{summed_0, summed_13, summed_21}
 use Rattle.sheet.specs.FirstLine.{old_line, new_line}
 use Rattle.sheet.specs.Sheet.{fields, line_text, program_lines, body_text, sheet_with, new_with}
 use Rattle.sheet.specs.LawsFirstLine.{length_old, length_new}
 use Rattle.sheet.specs.LawsBody.{length_fields, length_line, length_lines, length_body}
-use Rattle.sheetwrite.specs.declared.Written.{Written}
-use Rattle.sheetwrite.specs.Write.{sheet_text, sheet_length, written, written_text, new_text, new_length, new_written, new_written_text}
+use Rattle.sheetwrite.specs.Write.{Written, written_told, sheet_text, sheet_length, written, written_text, new_text, new_length, new_written, new_written_text}
 
 -- a text stored, and the next one where it ends
 pub sets_then : (l : List ℕ) (at : ℕ) (vs ws : List ℕ) (n : ℕ) → length vs ≡ n → sets l at (vs ++ ws) ≡ sets (sets l at vs) (at + n) ws
@@ -75,6 +77,37 @@ module _ (address n i at : ℕ) (l o p q r : List ℕ) where
       ∙ (sets_then (sets o at (word_text address)) (at + 4) (fields n i l) (lf ∷ []) (5 * n) (length_fields n i l)
       ∙ rw (g, f, e)))
 
+-- words by themselves, and where they stand in a longer list
+module _ (l s : List ℕ) where
+  fields_part : (n i j : ℕ) → ((k : ℕ) → k < n → get_or s (j + k) 0 ≡ get_or l (i + k) 0) → fields n j s ≡ fields n i l
+  unfolding fields
+  fields_part zero i j h = refl
+  fields_part (suc n) i j h =
+      let first : get_or s j 0 ≡ get_or l i 0 = rw (add-zero j, add-zero i) at (h 0 (omega arith)) in
+      let rest : fields n (j + 1) s ≡ fields n (i + 1) l =
+      fields_part n (i + 1) (j + 1) (λ k q. let a : j + 1 + k ≡ j + (k + 1) = omega arith in let b : i + 1 + k ≡ i + (k + 1) = omega arith in rw (a, b) (h (k + 1) (omega arith))) in
+      (λ x. tab ∷ (word_text (first x) ++ rest x))
+
+  line_part : (address n i : ℕ) → ((k : ℕ) → k < n → get_or s k 0 ≡ get_or l (i + k) 0) → line_text address n 0 s ≡ line_text address n i l
+  unfolding line_text
+  line_part address n i h = ap (λ f. word_text address ++ (f ++ lf ∷ [])) (fields_part n i 0 (λ k q. rw (zero-add k) (h k q)))
+
+  lines_part : (n k : ℕ) → ((i : ℕ) → i < 8 * (k + n) → get_or s i 0 ≡ get_or l i 0) → program_lines n k s ≡ program_lines n k l
+  unfolding program_lines line_text
+  lines_part zero k h = refl
+  lines_part (suc n) k h =
+      let here : fields 8 (8 * k) s ≡ fields 8 (8 * k) l = fields_part 8 (8 * k) (8 * k) (λ i q. h (8 * k + i) (omega arith)) in
+      let rest : program_lines n (k + 1) s ≡ program_lines n (k + 1) l = lines_part n (k + 1) (λ i q. h i (omega arith)) in
+      (λ x. (word_text (8 * k) ++ (here x ++ lf ∷ [])) ++ rest x)
+
+-- eight words, as the code cuts them
+pub line_cut : (l s : List ℕ) (k : ℕ) → 8 * k + 8 ≤ length l → s ≡ take (8 * k + 8 - 8 * k) (drop (8 * k) l) → line_text (8 * k) (length s) 0 s ≡ line_text (8 * k) 8 (8 * k) l
+line_cut l s k h e =
+    let long : length s ≡ 8 = ap length e ∙ length-take-le (8 * k + 8 - 8 * k) (drop (8 * k) l) (rw length-drop (omega arith)) ∙ omega arith in
+    rw long
+    (line_part l s (8 * k) 8 (8 * k)
+    (λ i q. ap (λ x. get_or x i 0) e ∙ (get_or-take (8 * k + 8 - 8 * k) (drop (8 * k) l) i 0 (omega arith) ∙ get_or-drop (8 * k) l i 0)))
+
 module _ (at n k : ℕ) (l o p : List ℕ) (h : k < n) where
   pub lines_turn : p ≡ sets o (at + 45 * k) (line_text (8 * k) 8 (8 * k) l) → sets o (at + 45 * k) (program_lines (n - k) k l) ≡ sets p (at + 45 * (k + 1)) (program_lines (n - (k + 1)) (k + 1) l)
   unfolding program_lines
@@ -97,11 +130,25 @@ lines_all at n l o =
 
 -- ---- the lines after line 1: the program lines, the last line
 
-pub body_put : (at words : ℕ) (l o p q : List ℕ) → p ≡ sets o at (program_lines (words / 8) 0 l)
-    → q ≡ sets p (at + 45 * (words / 8)) (line_text config_base reading_tail words l) → q ≡ sets o at (body_text words l)
-unfolding body_text
-body_put at words l o p q e f =
-    sym (sets_then o at (program_lines (words / 8) 0 l) (line_text config_base reading_tail words l) (45 * (words / 8)) (length_lines (words / 8) 0 l) ∙ rw (f, e))
+module _ (at words : ℕ) (l program config o p q : List ℕ) (long : length l ≡ words + reading_tail) (first : program ≡ take words l) (last : config ≡ drop words l) where
+  program_long : length program ≡ words
+  program_long = ap length first ∙ length-take-le words l (omega arith)
+
+  config_long : length config ≡ reading_tail
+  config_long = ap length last ∙ length-drop words l ∙ omega arith
+
+  pub body_put : p ≡ sets o at (program_lines (length program / 8) 0 program) → q ≡ sets p (at + 45 * (length program / 8)) (line_text config_base (length config) 0 config)
+      → q ≡ sets o at (body_text words l)
+  unfolding body_text
+  body_put e f =
+      let rows : program_lines (length program / 8) 0 program ≡ program_lines (words / 8) 0 l =
+      rw program_long (lines_part l program (words / 8) 0 (λ i h. ap (λ x. get_or x i 0) first ∙ get_or-take words l i 0 (omega arith))) in
+      let tail : line_text config_base (length config) 0 config ≡ line_text config_base reading_tail words l =
+      rw config_long (line_part l config config_base reading_tail words (λ k h. ap (λ x. get_or x k 0) last ∙ get_or-drop words l k 0)) in
+      let place : at + 45 * (length program / 8) ≡ at + 45 * (words / 8) = ap (λ n. at + 45 * (n / 8)) program_long in
+      let e' : p ≡ sets o at (program_lines (words / 8) 0 l) = e ∙ ap (sets o at) rows in
+      let f' : q ≡ sets p (at + 45 * (words / 8)) (line_text config_base reading_tail words l) = f ∙ (λ i. sets p (place i) (tail i)) in
+      sym (sets_then o at (program_lines (words / 8) 0 l) (line_text config_base reading_tail words l) (45 * (words / 8)) (length_lines (words / 8) 0 l) ∙ rw (f', e'))
 
 -- ---- line 1
 
@@ -199,9 +246,13 @@ module _ (d : Device) (l out : List ℕ) where
       by true false c r = unfold pick in omega arith
       by false b c r = unfold pick in omega arith
 
-  pub refused_record : device_ok d ≡ false → Wrote d l out (record { number = 13; length = 0 }) out
+  pub refused_record : (n : ℕ) → 0 < n → n ≡ record_number d → Wrote d l out (record { number = n; length = 0 }) out
   unfolding written written_text pick
-  refused_record f = (rw f, rw f)
+  refused_record n h e =
+      let bad : Rules d → ⊥ = λ r. let z : 0 ≡ record_number d = judged_good d r in omega arith in
+      let f : device_ok d ≡ false = breaks d bad in
+      let same : n ≡ 13 = e ∙ sym (judged_bad d bad) in
+      (rw (f, same), rw f)
 
   module _ (t : device_ok d ≡ true) where
     pub refused_reading : reading_ok d.words l ≡ false → Wrote d l out (record { number = 21; length = 0 }) out
@@ -231,42 +282,57 @@ module _ (d : Device) (name l out : List ℕ) where
   unfolding new_written new_written_text pick
   new_13 f = (rw f, rw f)
 
-  pub new_no_record : device_ok d ≡ false → WroteNew d name l out (record { number = 13; length = 0 }) out
-  new_no_record f = new_13 (first_fails (device_ok d) (name_ok name) f)
+  new_21 : (device_ok d && name_ok name) ≡ true → reading_ok d.words l ≡ false → WroteNew d name l out (record { number = 21; length = 0 }) out
+  unfolding new_written new_written_text pick
+  new_21 t f = (rw (t, f), rw (t, f))
 
   pub new_no_name : name_ok name ≡ false → WroteNew d name l out (record { number = 13; length = 0 }) out
   new_no_name f = new_13 (second_fails (device_ok d) (name_ok name) f)
 
-  module _ (sound : device_ok d ≡ true) (named : name_ok name ≡ true) (s : Sum) (is : s ≡ summed d l) where
+  -- a record or a reading that the checksum refuses
+  pub new_refused : name_ok name ≡ true → (e : Refusal) → sum_told (Err e) ≡ summed d l → WroteNew d name l out (record { number = number_of e; length = 0 }) out
+  new_refused n e is =
+      by_test (device_ok d)
+      (λ y. by_test (reading_ok d.words l)
+      (λ z. let none : number_of e ≡ 0 = ap (λ x. x.number) (is ∙ summed_0 d l y z) in absurd (omega (arith, number_of_positive e)))
+      (λ f. let same : number_of e ≡ 21 = ap (λ x. x.number) (is ∙ summed_21 d l y f) in rw same (new_21 (both (device_ok d) (name_ok name) y n) f)))
+      (λ f. let same : number_of e ≡ 13 = ap (λ x. x.number) (is ∙ summed_13 d l f) in rw same (new_13 (first_fails (device_ok d) (name_ok name) f)))
+
+  module _ (named : name_ok name ≡ true) (sum : ℕ) (is : sum_told (Ok sum) ≡ summed d l) where
+    new_sound : (device_ok d ≡ true) × (reading_ok d.words l ≡ true) × (sum ≡ checksum_of d l)
+    new_sound =
+        by_test (device_ok d)
+        (λ y. by_test (reading_ok d.words l)
+        (λ z. (y, z, ap (λ x. x.sum) (is ∙ summed_0 d l y z)))
+        (λ f. absurd (let same : 0 ≡ 21 = ap (λ x. x.number) (is ∙ summed_21 d l y f) in omega arith)))
+        (λ f. absurd (let same : 0 ≡ 13 = ap (λ x. x.number) (is ∙ summed_13 d l f) in omega arith))
+
+    pub new_rules : Rules d
+    new_rules = rules_lem d new_sound.0
+
+    pub new_reading : reading_ok d.words l ≡ true
+    new_reading = new_sound.1
+
     t : (device_ok d && name_ok name) ≡ true
-    t = both (device_ok d) (name_ok name) sound named
+    t = both (device_ok d) (name_ok name) new_sound.0 named
 
-    -- the checksum judges the reading too
-    pub new_no_reading : (s.number ≡ 0 → ⊥) → WroteNew d name l out (record { number = 21; length = 0 }) out
+    pub new_short : length out < new_length d name → WroteNew d name l out (record { number = 26; length = 0 }) out
     unfolding new_written new_written_text pick
-    new_no_reading n =
-        let f : reading_ok d.words l ≡ false = fails (reading_ok d.words l) (λ y. n (ap (λ x. x.number) (is ∙ summed_0 d l sound y))) in
-        (rw (t, f), rw (t, f))
+    new_short h =
+        let f : leb (new_length d name) (length out) ≡ false = lt-leb (new_length d name) (length out) h in
+        (rw (t, new_reading, f), rw (t, new_reading, f))
 
-    module _ (z : s.number ≡ 0) where
-      pub new_reading : reading_ok d.words l ≡ true
-      new_reading = by_test (reading_ok d.words l) (λ y. y) (λ f. absurd (let e : s.number ≡ 21 = ap (λ x. x.number) (is ∙ summed_21 d l sound f) in omega arith))
+    pub new_all : new_length d name ≤ length out → (n : ℕ) → n ≡ new_length d name → (first after : List ℕ) → first ≡ sets out 0 (new_line d.id name sum)
+        → after ≡ sets first (11 + length name) (body_text d.words l) → WroteNew d name l out (record { number = 0; length = n }) after
+    unfolding new_written new_written_text new_text new_with pick
+    new_all h n e first after w v =
+        let y : leb (new_length d name) (length out) ≡ true = le-leb (new_length d name) (length out) h in
+        let whole : after ≡ sets out 0 (new_line d.id name (checksum_of d l) ++ body_text d.words l) =
+        then_put (new_line d.id name sum) (body_text d.words l) out first after (11 + length name) (length_new d.id name sum) w v
+        ∙ ap (λ x. sets out 0 (new_line d.id name x ++ body_text d.words l)) new_sound.2 in
+        (rw (t, new_reading, y, e), rw (t, new_reading, y) whole)
 
-      pub new_short : length out < new_length d name → WroteNew d name l out (record { number = 26; length = 0 }) out
-      unfolding new_written new_written_text pick
-      new_short h =
-          let f : leb (new_length d name) (length out) ≡ false = lt-leb (new_length d name) (length out) h in
-          (rw (t, new_reading, f), rw (t, new_reading, f))
+-- ---- two answers that are told alike are equal
 
-      sum_is : s.sum ≡ checksum_of d l
-      sum_is = ap (λ x. x.sum) (is ∙ summed_0 d l sound new_reading)
-
-      pub new_all : new_length d name ≤ length out → (n : ℕ) → n ≡ new_length d name → (first after : List ℕ) → first ≡ sets out 0 (new_line d.id name s.sum)
-          → after ≡ sets first (11 + length name) (body_text d.words l) → WroteNew d name l out (record { number = 0; length = n }) after
-      unfolding new_written new_written_text new_text new_with pick
-      new_all h n e first after w v =
-          let y : leb (new_length d name) (length out) ≡ true = le-leb (new_length d name) (length out) h in
-          let whole : after ≡ sets out 0 (new_line d.id name (checksum_of d l) ++ body_text d.words l) =
-          then_put (new_line d.id name s.sum) (body_text d.words l) out first after (11 + length name) (length_new d.id name s.sum) w v
-          ∙ ap (λ x. sets out 0 (new_line d.id name x ++ body_text d.words l)) sum_is in
-          (rw (t, new_reading, y, e), rw (t, new_reading, y) whole)
+pub written_told_unique : (a b : Result ℕ Refusal) → written_told a ≡ written_told b → a ≡ b
+written_told_unique a b e = answer_unique 0 a b (ap (λ x. x.number) e) (ap (λ x. x.length) e)

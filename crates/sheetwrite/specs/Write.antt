@@ -1,5 +1,5 @@
 -- The sheet writers, one for each form ('Sheets'; refusals 13, 21, 26; #106). Text is a list of bytes.
-use Rattle.std.specs.Prelude.{ℕ, ◌+◌, ◌&&◌, List, leb, eqb, length}
+use Rattle.std.specs.Prelude.{ℕ, ◌+◌, Result, ◌&&◌, List, leb, eqb, length}
 use Rattle.std.proofs.lemmas.List.Edits.{sets}
 use Rattle.words.specs.Choice.{pick, unless}
 use Rattle.device.specs.declared.Device.{Device}
@@ -8,7 +8,16 @@ use Rattle.device.specs.Memory.{reading_ok}
 use Rattle.table.specs.Table.{name_ok}
 use Rattle.judge.specs.Checksum.{checksum_of}
 use Rattle.sheet.specs.Sheet.{sheet_with, new_with, body_length}
-use Rattle.sheetwrite.specs.declared.Written.{Written}
+use Rattle.refusal.specs.Refusal.{number_in, value_in}
+use Rattle.refusal.specs.declared.Refusal.{Refusal}
+
+-- how an answer is told: the length of the sheet that was written, or the number of a refusal and nothing else
+pub record Written : Type 0 where
+  pub number : ℕ
+  pub length : ℕ
+
+abbrev pub written_told : Result ℕ Refusal → Written
+written_told answer = record { number = number_in answer; length = value_in 0 answer }
 
 -- ---- the old form, with the record's ID
 
