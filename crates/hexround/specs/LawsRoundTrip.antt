@@ -26,12 +26,11 @@ use Rattle.device.specs.Record.{most_words, device_ok}
 use Rattle.device.specs.Memory.{reading_tail, programmable, image_ok}
 use Rattle.device.specs.LawsRecord.{Rules, rules_lem, words_eighths}
 use Rattle.device.specs.LawsMemory.{image_long, image_each, entry_word}
-use Rattle.hexwrite.specs.declared.WrittenHex.{WrittenHex}
 use Rattle.lines.specs.Lines.{lines_of, all_without_cr, without_cr}
 use Rattle.hexread.specs.Line.{byte_at, count_of, offset_of, type_of, line_number}
 use Rattle.hexread.specs.Step.{word_of, byte_address, entry_at, entry_of_word, word_number, Reading, give_words, record_step, line_refused, line_step}
 use Rattle.hexread.specs.Reader.{most_text, blank_image, Outcome, read_lines, begun, text_read}
-use Rattle.hexwrite.specs.Writer.{written_hex, written_out, record_text, hex_address, upper_of, word_bytes, data_bytes, upper_bytes, end_bytes, hex_text}
+use Rattle.hexwrite.specs.Writer.{WrittenHex, written_hex, written_out, record_text, hex_address, upper_of, word_bytes, data_bytes, upper_bytes, end_bytes, hex_text}
 use Rattle.hexwrite.specs.LawsWrite.{upper_text, refused_with}
 use Rattle.hexwrite.specs.LawsWriteRun.{length_words, upper_same, upper_new, upper_most, hex_program, hex_config, hex_below}
 use Rattle.hexwrite.specs.LawsWriteText.{text_length}

@@ -2,7 +2,7 @@
 use device::{Device, READING_TAIL};
 use std::fs::Files;
 use std::{fs, io};
-use words::{CONFIG_BASE, NOT_GIVEN, Place, WordAddress};
+use words::{CONFIG_BASE, NOT_GIVEN, WordAddress};
 
 const PIC16F1459: Device = Device {
     id: 0x3023,
@@ -18,8 +18,15 @@ pub(crate) fn file<R: Files + Print>(rt: &R, name: &str) -> io::Result<()> {
     let mut text = [0u8; 65536];
     let n = files::read(fs::open(rt, name).ok(), &mut text);
     let mut image = [NOT_GIVEN; 8192 + READING_TAIL];
-    let r = hexread::read_hex(PIC16F1459, &text[..n], &mut image);
-    println!(rt; "{name}\t{}\t{}\t{}", r.number, r.line, r.column)?;
+    match hexread::read_hex(PIC16F1459, &text[..n], &mut image) {
+        Ok(()) => println!(rt; "{name}\t0\t0\t0")?,
+        Err(misread) => println!(rt;
+            "{name}\t{}\t{}\t{}",
+            misread.refusal.number(),
+            misread.line,
+            misread.column
+        )?,
+    }
     all(rt, &image)
 }
 
@@ -36,7 +43,7 @@ fn all(rt: &impl Print, image: &[u16]) -> io::Result<()> {
 // The address of an entry, and its word.
 fn entry(rt: &impl Print, i: usize, word: u16) -> io::Result<()> {
     match words::address::address_of(WordAddress(CONFIG_BASE), 8192, READING_TAIL as u8, i) {
-        Place::At(a) => println!(rt; "\t{:04X}\t{word:04X}", a.0),
-        Place::Nowhere => Ok(()),
+        Some(a) => println!(rt; "\t{:04X}\t{word:04X}", a.0),
+        None => Ok(()),
     }
 }
