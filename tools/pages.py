@@ -4,9 +4,10 @@ from functools import cache
 
 from sources import ROOT, read
 
-# docs/PORT.md tells of what is gone.
+# docs/PORT.md and docs/DESIGN-PASS.md tell of what is gone.
+PASSED_OVER = (ROOT / "docs/PORT.md", ROOT / "docs/DESIGN-PASS.md")
 FORMS = ("*.md", "docs/*.md", "capi/*.md", "tests/*/*.md")
-PAGES = [page for form in FORMS for page in sorted(ROOT.glob(form)) if page != ROOT / "docs/PORT.md"]
+PAGES = [page for form in FORMS for page in sorted(ROOT.glob(form)) if page not in PASSED_OVER]
 SPAN = re.compile(r"`([^`]+)`")
 
 

@@ -22,7 +22,7 @@ def code(path):
 def declared(path):
     """The names that a file declares; of what stands inside another thing, only what is pub."""
     if path.suffix == ".rt":
-        return set(re.findall(rf"^ *(?:{FUNCTION}|(?:pub )?(?:struct|enum|const) )(\w+)", read(path), re.M))
+        return set(re.findall(rf"^ *(?:{FUNCTION}|(?:pub(?:\(crate\))? )?(?:struct|enum|const) )(\w+)", read(path), re.M))
     form = r"^( *)((?:(?:pub|unfoldable|abbrev) )*)(?:(?:record|data|ruleset) ([^\s:]+)|([^\s:(){}]+) :)"
     found = re.findall(form, read(path), re.M)
     return {thing or name for indent, marks, thing, name in found if not indent or "pub" in marks}
