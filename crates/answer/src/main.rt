@@ -5,21 +5,28 @@ mod request;
 mod serve;
 
 use ask::room;
+use ask::room::Room;
+use ask_io::Stop;
 use std::process::ExitCode;
 
-// Room is made once, since requests may be many and short.
+// Room is made once, since requests may be many and short. A message that cannot be written is lost, as the request is.
 fn main(rt: HostRuntime) -> ExitCode {
-    let mut text = room::for_line();
-    let mut out = room::for_line();
-    let mut a = room::for_bytes();
-    let mut w = room::for_words();
-    let mut v = room::for_words();
-    let input = &mut rt.stdin();
-    match serve::serve(&rt, input, &mut text, &mut a, &mut w, &mut v, &mut out) {
-        Ok(()) => ExitCode::SUCCESS,
-        Err(e) => {
-            let _ = eprintln!(rt; "answer: {e}");
-            ExitCode::FAILURE
-        }
+    let mut text = room::zeros::<u8, { room::LINE }>();
+    let mut out = room::zeros::<u8, { room::LINE }>();
+    let mut bytes = room::zeros::<u8, { room::BYTES }>();
+    let mut words = room::zeros::<u16, { room::WORDS }>();
+    let mut room = Room {
+        bytes: &mut bytes,
+        words: &mut words,
+        out: &mut out,
+    };
+    let served = serve::serve(&rt, &mut rt.stdin(), &mut text, &mut room);
+    let Err(stop) = served else {
+        return ExitCode::SUCCESS;
+    };
+    let _ = eprintln!(rt; "answer: {stop}");
+    match stop {
+        Stop::Io(_) => ExitCode::FAILURE,
+        Stop::Request { .. } => ExitCode::SUCCESS,
     }
 }

@@ -1,57 +1,42 @@
 // One line: a comment, or a request with its name, its fields and its answer.
-use ask::name::UNKNOWN;
-use ask::{name, put};
+use ask::answer::Answer;
+use ask::fields::Fields;
+use ask::wrong::Wrong;
 
-// Puts the answer to a line, and answers where it ends. A comment is its own answer. The answer to a request begins with the request's own name, so its fields begin at the same place.
+// Puts the answer to a line, with the LF that ends it. A comment is its own answer. The answer to a request begins with the request's own name.
 pub(crate) fn answer(
     line: &[u8],
-    a: &mut [u8],
-    w: &mut [u16],
-    v: &mut [u16],
-    out: &mut [u8],
-) -> usize {
-    if is_comment(line) {
-        return put::text(out, 0, line);
+    bytes: &mut [u8],
+    words: &mut [u16],
+    out: &mut Answer,
+) -> Result<(), Wrong> {
+    if line.first() == Some(&b'#') {
+        out.text(line)?;
+    } else {
+        let end = line.iter().position(|c| *c == b' ').unwrap_or(line.len());
+        let (name, fields) = line.split_at(end);
+        out.text(name)?;
+        answer_to(name, &mut Fields::new(fields, bytes, words), out)?;
     }
-    let at = name::before(line, b' ');
-    put::text(out, 0, &line[..at]);
-    answer_to(&line[..at], line, at, a, w, v, out)
-}
-
-fn is_comment(line: &[u8]) -> bool {
-    if 0 < line.len() {
-        return line[0] == b'#';
-    }
-    false
+    out.text(&[ask_io::LF])
 }
 
 // The answer to a request with this name, by the crate that it begins with.
-fn answer_to(
-    name: &[u8],
-    line: &[u8],
-    at: usize,
-    a: &mut [u8],
-    w: &mut [u16],
-    v: &mut [u16],
-    out: &mut [u8],
-) -> usize {
-    match of_crate(name) {
-        0 => ask_words::answer(name, line, at, a, w, out),
-        1..=3 => ask_device::answer(name, line, at, a, w, v, out),
-        4 => ask_hex::answer(name, line, at, a, w, out),
-        5..=6 => ask_target::answer(name, line, at, a, w, v, out),
-        7 => ask_plan::answer(name, line, at, a, w, v, out),
-        8..=9 => ask_board::answer(name, line, at, a, out),
-        10 => ask_bench::answer(name, line, at, a, out),
-        _ => UNKNOWN,
+fn answer_to(name: &[u8], fields: &mut Fields, out: &mut Answer) -> Result<(), Wrong> {
+    let Ok(name) = str::from_utf8(name) else {
+        return Err(Wrong::UnknownName);
+    };
+    let Some((of, _)) = name.split_once('.') else {
+        return Err(Wrong::UnknownName);
+    };
+    match of {
+        "words" => ask_words::answer(name, fields, out),
+        "device" | "judge" | "sheet" => ask_device::answer(name, fields, out),
+        "ihex" => ask_hex::answer(name, fields, out),
+        "target" | "lent" => ask_target::answer(name, fields, out),
+        "plan" => ask_plan::answer(name, fields, out),
+        "print" | "board" => ask_board::answer(name, fields, out),
+        "bench" => ask_bench::answer(name, fields, out),
+        _ => Err(Wrong::UnknownName),
     }
-}
-
-// The place of a request's crate among these.
-fn of_crate(name: &[u8]) -> usize {
-    let dot = name::before(name, b'.');
-    name::place(
-        b"words device judge sheet ihex target lent plan print board bench",
-        &name[..dot],
-    )
 }

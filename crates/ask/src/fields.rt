@@ -1,271 +1,125 @@
-// The fields of a request, read one after another. Each is read from the space that parts it from what stands before it, and answers
-// where it ends. A malformed field ends nowhere, and nothing can be read from there: so one look at the last field's end judges them all.
-ghost use Rattle.std.specs.Prelude.{◌≤◌};
-ghost use Rattle.std.specs.Counts.{IsPrefixLen};
+// The fields of a request, taken one after another, each with the space that parts it from what stands before it.
+ghost use Rattle.std.specs.Prelude.{◌<◌};
 
+use crate::wrong::Wrong;
 use device::Device;
+use std::num::TryFromIntError;
 
-// No field begins and no line ends here.
-pub const NOWHERE: usize = usize::MAX;
+// The most bytes of a field that holds HEX text: the longest text that is read, and one more.
+const MOST_HEX: usize = 524289;
 
-// A number of 64 bits.
-#[derive(Clone, Copy)]
-pub struct Of64 {
-    pub value: u64,
-    pub at: usize,
+// The most bytes of any other field.
+const MOST_BYTES: usize = 262144;
+
+// The most words of a field.
+const MOST_WORDS: usize = 65536;
+
+// What is left of a request, and of the room that is lent for its bytes and words.
+#[derive(Drop)]
+pub struct Fields<'a> {
+    line: &'a [u8],
+    bytes: &'a mut [u8],
+    words: &'a mut [u16],
 }
 
-// A number of 32 bits.
-#[derive(Clone, Copy)]
-pub struct Of32 {
-    pub value: u32,
-    pub at: usize,
-}
+impl<'a> Fields<'a> {
+    pub fn new(line: &'a [u8], bytes: &'a mut [u8], words: &'a mut [u16]) -> Fields<'a> {
+        Fields { line, bytes, words }
+    }
 
-// A number of 16 bits.
-#[derive(Clone, Copy)]
-pub struct Of16 {
-    pub value: u16,
-    pub at: usize,
-}
+    // The text of a field.
+    fn text(&mut self) -> Result<&'a [u8], Wrong> {
+        if self.line.first() != Some(&b' ') {
+            return Err(Wrong::Malformed);
+        }
+        let line = &self.line[1..];
+        let end = line.iter().position(|c| *c == b' ').unwrap_or(line.len());
+        let (text, rest) = line.split_at(end);
+        self.line = rest;
+        Ok(text)
+    }
 
-// A number of 8 bits.
-#[derive(Clone, Copy)]
-pub struct Of8 {
-    pub value: u8,
-    pub at: usize,
-}
+    // A number that its type holds.
+    pub fn number<T: TryFrom<u64, Error = TryFromIntError>>(&mut self) -> Result<T, Wrong> {
+        let n = decimal(self.text()?).and_then(|n| T::try_from(n).ok());
+        n.ok_or(Wrong::Malformed)
+    }
 
-// A device record.
-#[derive(Clone, Copy)]
-pub struct Record {
-    pub device: Device,
-    pub at: usize,
-}
+    // The six numbers of a device record.
+    pub fn device(&mut self) -> Result<Device, Wrong> {
+        Ok(Device {
+            id: self.number()?,
+            words: self.number()?,
+            row: self.number()?,
+            mask1: self.number()?,
+            mask2: self.number()?,
+            idmask: self.number()?,
+        })
+    }
 
-// How many bytes or words were put at the start of a buffer.
-#[derive(Clone, Copy)]
-pub struct Taken {
-    pub count: usize,
-    pub at: usize,
-}
+    // Bytes, or none.
+    pub fn bytes(&mut self) -> Result<&'a mut [u8], Wrong> {
+        self.bytes_up_to(MOST_BYTES)
+    }
 
-const NO_NUMBER: Of64 = Of64 {
-    value: 0,
-    at: NOWHERE,
-};
+    // Bytes of HEX text, or none.
+    pub fn hex_text(&mut self) -> Result<&'a mut [u8], Wrong> {
+        self.bytes_up_to(MOST_HEX)
+    }
 
-const NOTHING: Taken = Taken {
-    count: 0,
-    at: NOWHERE,
-};
+    fn bytes_up_to(&mut self, most: usize) -> Result<&'a mut [u8], Wrong> {
+        let byte = |digits: &[u8]| u8::try_from(numerals::hex::byte(digits, 0)).ok();
+        list::<_, _, 2>(self.text()?, most, &mut self.bytes, byte).ok_or(Wrong::Malformed)
+    }
 
-// Where a field's own text begins.
-fn begin(line: &[u8], at: usize) -> usize {
-    if at < line.len() {
-        if line[at] == b' ' {
-            return at + 1;
+    // Words, or none.
+    pub fn words(&mut self) -> Result<&'a mut [u16], Wrong> {
+        let word = |digits: &[u8]| u16::try_from(numerals::hex::word(digits, 0)).ok();
+        list::<_, _, 4>(self.text()?, MOST_WORDS, &mut self.words, word).ok_or(Wrong::Malformed)
+    }
+
+    // Nothing is left of the request.
+    pub fn end(&self) -> Result<(), Wrong> {
+        if self.line.is_empty() {
+            Ok(())
+        } else {
+            Err(Wrong::Malformed)
         }
     }
-    NOWHERE
 }
 
-// A number: 0, or digits that do not begin with 0.
-pub fn number(line: &[u8], at: usize) -> Of64 {
-    let from = begin(line, at);
-    if from < line.len() {
-        let first = decimal_digit(line[from]);
-        if first == 0 {
-            return Of64 {
-                value: 0,
-                at: from + 1,
-            };
-        }
-        if first < 10 {
-            return digits(line, from);
-        }
+// The number of a text: 0, or digits that do not begin with 0.
+fn decimal(text: &[u8]) -> Option<u64> {
+    match text {
+        [b'0'] => Some(0),
+        [b'1'..=b'9', ..] => text.iter().try_fold(0u64, |n, c| match c {
+            b'0'..=b'9' => n.checked_mul(10)?.checked_add(u64::from(c - b'0')),
+            _ => None,
+        }),
+        _ => None,
     }
-    NO_NUMBER
 }
 
-// The number that the digits from a place on give, if 64 bits hold it.
-fn digits(line: &[u8], from: usize) -> Of64 {
-    let mut value: u64 = 0;
-    let mut i = from;
-    while i < line.len() {
-        let d = decimal_digit(line[i]);
-        if d == 10 {
-            return Of64 { value, at: i };
-        }
-        if (u64::MAX - d) / 10 < value {
-            return NO_NUMBER;
-        }
-        value = 10 * value + d;
-        i += 1;
-    }
-    Of64 { value, at: i }
-}
-
-// The value of a decimal digit; 10 for any other character.
-fn decimal_digit(c: u8) -> u64
-    ensures { result ≤ 10 }
+// The numbers of so many digits each that a text holds, put at the front of the room, which is left with the rest; a dash stands for none.
+fn list<'a, T: Copy, V: Fn(&[u8]) -> Option<T>, const DIGITS: usize>(
+    text: &[u8],
+    most: usize,
+    room: &mut &'a mut [T],
+    value: V,
+) -> Option<&'a mut [T]>
+    requires some { 0 < DIGITS }
+    requires is_always_callable { V.IsAlwaysCallable value }
 {
-    if c < b'0' {
-        return 10;
+    if text == b"-".as_slice() {
+        return room.split_off_mut(..0);
     }
-    if b'9' < c {
-        return 10;
+    let n = text.len() / DIGITS;
+    if n == 0 || most < n || text.len() % DIGITS != 0 {
+        return None;
     }
-    (c - b'0') as u64
-}
-
-// A number of 32 bits.
-pub fn long(line: &[u8], at: usize) -> Of32 {
-    let n = number(line, at);
-    if n.value < 0x1_0000_0000 {
-        return Of32 {
-            value: n.value as u32,
-            at: n.at,
-        };
+    let taken = room.split_off_mut(..n)?;
+    for (slot, digits) in taken.iter_mut().zip(text.chunks_exact(DIGITS)) {
+        *slot = value(digits)?;
     }
-    Of32 {
-        value: 0,
-        at: NOWHERE,
-    }
-}
-
-// A number of 16 bits.
-pub fn short(line: &[u8], at: usize) -> Of16 {
-    let n = number(line, at);
-    if n.value < 0x1_0000 {
-        return Of16 {
-            value: n.value as u16,
-            at: n.at,
-        };
-    }
-    Of16 {
-        value: 0,
-        at: NOWHERE,
-    }
-}
-
-// A number of 8 bits.
-pub fn byte(line: &[u8], at: usize) -> Of8 {
-    let n = number(line, at);
-    if n.value < 0x100 {
-        return Of8 {
-            value: n.value as u8,
-            at: n.at,
-        };
-    }
-    Of8 {
-        value: 0,
-        at: NOWHERE,
-    }
-}
-
-// The six numbers of a device record.
-pub fn device(line: &[u8], at: usize) -> Record {
-    let id = short(line, at);
-    let words = short(line, id.at);
-    let row = short(line, words.at);
-    let mask1 = short(line, row.at);
-    let mask2 = short(line, mask1.at);
-    let idmask = short(line, mask2.at);
-    let device = Device {
-        id: id.value,
-        words: words.value,
-        row: row.value,
-        mask1: mask1.value,
-        mask2: mask2.value,
-        idmask: idmask.value,
-    };
-    Record {
-        device,
-        at: idmask.at,
-    }
-}
-
-// Bytes, or none.
-pub fn bytes(line: &[u8], at: usize, out: &mut [u8]) -> Taken
-    ensures { IsPrefixLen result.count out.new }
-{
-    let from = begin(line, at);
-    let none = after_dash(line, from);
-    if none != NOWHERE {
-        return Taken { count: 0, at: none };
-    }
-    let some = hex_bytes(line, from, out);
-    if some.count == 0 {
-        return NOTHING;
-    }
-    some
-}
-
-// Words, or none.
-pub fn words(line: &[u8], at: usize, out: &mut [u16]) -> Taken
-    ensures { IsPrefixLen result.count out.new }
-{
-    let from = begin(line, at);
-    let none = after_dash(line, from);
-    if none != NOWHERE {
-        return Taken { count: 0, at: none };
-    }
-    let some = hex_words(line, from, out);
-    if some.count == 0 {
-        return NOTHING;
-    }
-    some
-}
-
-// Past the dash that stands for no bytes and for no words.
-fn after_dash(line: &[u8], from: usize) -> usize {
-    if from < line.len() {
-        if line[from] == b'-' {
-            return from + 1;
-        }
-    }
-    NOWHERE
-}
-
-// The bytes whose digits stand from a place on, as far as there is room: where more digits follow, no field begins and no line ends.
-fn hex_bytes(line: &[u8], from: usize, out: &mut [u8]) -> Taken
-    ensures { IsPrefixLen result.count out.new }
-{
-    let mut n = 0;
-    let mut i = from;
-    while n < out.len() {
-        let b = numerals::hex::byte(line, i);
-        if 255 < b {
-            return Taken { count: n, at: i };
-        }
-        if NOWHERE - 2 < i {
-            return Taken { count: n, at: i };
-        }
-        out[n] = b as u8;
-        n += 1;
-        i += 2;
-    }
-    Taken { count: n, at: i }
-}
-
-// The words whose digits stand from a place on, likewise.
-fn hex_words(line: &[u8], from: usize, out: &mut [u16]) -> Taken
-    ensures { IsPrefixLen result.count out.new }
-{
-    let mut n = 0;
-    let mut i = from;
-    while n < out.len() {
-        let w = numerals::hex::word(line, i);
-        if 65535 < w {
-            return Taken { count: n, at: i };
-        }
-        if NOWHERE - 4 < i {
-            return Taken { count: n, at: i };
-        }
-        out[n] = w as u16;
-        n += 1;
-        i += 4;
-    }
-    Taken { count: n, at: i }
+    Some(taken)
 }

@@ -1,7 +1,7 @@
-// What all answers to requests are made of: the fields of a request and of its answer, names, and room for them.
+// What all answers to requests are made of: the fields of a request, what is wrong with one, the fields of its answer, and room for them.
 #![tactic(auto)]
 
+pub mod answer;
 pub mod fields;
-pub mod name;
-pub mod put;
 pub mod room;
+pub mod wrong;

@@ -1,39 +1,24 @@
 // Requests on checksums and verdicts.
-use ask::fields::NOWHERE;
-use ask::{fields, put};
+use ask::answer::Answer;
+use ask::fields::Fields;
+use ask::wrong::Wrong;
 
-pub(crate) fn checksum(line: &[u8], at: usize, w: &mut [u16], out: &mut [u8]) -> usize {
-    let d = fields::device(line, at);
-    let reading = fields::words(line, d.at, w);
-    if reading.at != line.len() {
-        return NOWHERE;
-    }
-    let n = reading.count;
-    let s = judge::checksum(d.device, &w[..n]);
-    put::two(out, at, s.number as u64, s.sum as u64)
+pub(crate) fn checksum(fields: &mut Fields, out: &mut Answer) -> Result<(), Wrong> {
+    let d = fields.device()?;
+    let reading = fields.words()?;
+    fields.end()?;
+    let s = judge::checksum(d, reading);
+    out.number(s.number)?;
+    out.number(s.sum)
 }
 
-pub(crate) fn verify(
-    line: &[u8],
-    at: usize,
-    w: &mut [u16],
-    v: &mut [u16],
-    out: &mut [u8],
-) -> usize {
-    let d = fields::device(line, at);
-    let wanted = fields::words(line, d.at, w);
-    let reading = fields::words(line, wanted.at, v);
-    if reading.at != line.len() {
-        return NOWHERE;
-    }
-    let n = wanted.count;
-    let m = reading.count;
-    let found = judge::verify(d.device, &w[..n], &v[..m]);
-    put::three(
-        out,
-        at,
-        found.number as u64,
-        found.address.0 as u64,
-        found.count as u64,
-    )
+pub(crate) fn verify(fields: &mut Fields, out: &mut Answer) -> Result<(), Wrong> {
+    let d = fields.device()?;
+    let wanted = fields.words()?;
+    let reading = fields.words()?;
+    fields.end()?;
+    let found = judge::verify(d, wanted, reading);
+    out.number(found.number)?;
+    out.number(found.address.0)?;
+    out.number(found.count)
 }

@@ -1,15 +1,36 @@
-// The lines of standard input, the answers on standard output, and what is said on standard error.
+// The lines of standard input, and why no more of them are answered.
 #![tactic(auto)]
 
 ghost use Rattle.std.specs.Prelude.{◌≡◌, ◌≤◌, length, take, IfOk};
 
-use ask::name::UNKNOWN;
-use ask::put;
-use std::io;
+use ask::wrong::Wrong;
 use std::io::Read;
+use std::{fmt, io};
 
 // The character that ends a line.
-pub const LF: u8 = 10;
+pub const LF: u8 = b'\n';
+
+// Input and output that fail, or something wrong with a line of the input.
+#[derive(Debug, Drop)]
+pub enum Stop {
+    Io(io::Error),
+    Request { line: u64, wrong: Wrong },
+}
+
+impl fmt::Display for Stop {
+    fn fmt<W: fmt::Write>(&self, f: &mut fmt::Formatter<W>) -> fmt::Result {
+        match self {
+            Stop::Io(e) => write!(f, "{e}"),
+            Stop::Request { line, wrong } => write!(f, "line {line}: {wrong}"),
+        }
+    }
+}
+
+impl From<io::Error> for Stop {
+    fn from(e: io::Error) -> Stop {
+        Stop::Io(e)
+    }
+}
 
 // Reads more after the bytes that are there, and answers how many there are then.
 pub fn fill<R: Read>(input: &mut R, text: &mut [u8], have: usize) -> io::Result<usize>
@@ -27,57 +48,24 @@ pub fn fill<R: Read>(input: &mut R, text: &mut [u8], have: usize) -> io::Result<
 
 // Moves the bytes from a place on to the front, and answers how many there are.
 pub fn keep(text: &mut [u8], from: usize, have: usize) -> usize
-    ensures { length text.new ≡ length text.old }
+    ensures room { length text.new ≡ length text.old }
+    ensures within { result ≤ length text.new }
 {
-    let mut n = 0;
-    let mut i = from;
-    while i < have {
-        if text.len() <= i {
-            return n;
-        }
-        if i < n {
-            return n;
-        }
-        text[n] = text[i];
-        n += 1;
-        i += 1;
+    let end = have.min(text.len());
+    if end <= from {
+        return 0;
     }
-    n
+    text.copy_within(from..end, 0);
+    end - from
 }
 
-// Writes an answer, or says what is wrong with the request; answers whether to go on.
-pub fn tell(rt: &(impl Print + Eprint), out: &mut [u8], end: usize, line: u64) -> io::Result<bool>
-    ensures { length out.new ≡ length out.old }
-{
-    if end == UNKNOWN {
-        complain(rt, line, "no request has this name");
-        return Ok(false);
-    }
-    let whole = put::mark(out, end, LF);
-    if whole <= out.len() {
-        rt.write_all(&out[..whole])?;
-        return Ok(true);
-    }
-    complain(rt, line, "a field is missing, too many or not of its kind");
-    Ok(false)
-}
-
-// Says what is wrong with a line that the input leaves unended.
-pub fn end_input(rt: &impl Eprint, text: &[u8], have: usize, line: u64) {
+// Whether so many bytes may be left at the end of the input: they belong to a line that has no end.
+pub fn end(text: &[u8], have: usize) -> Result<(), Wrong> {
     if text.len() <= have {
-        complain(rt, line, "the line is too long");
-        return;
+        Err(Wrong::TooLong)
+    } else if 0 < have {
+        Err(Wrong::Unended)
+    } else {
+        Ok(())
     }
-    if 0 < have {
-        complain(rt, line, "the input ends inside a line");
-    }
-}
-
-// A message that cannot be written is lost, as the request is.
-fn complain(rt: &impl Eprint, line: u64, what: &str) {
-    let _ = eprintln!(rt; "answer: line {line}: {what}");
-}
-
-pub fn next_line(line: u64) -> u64 {
-    if line < u64::MAX { line + 1 } else { line }
 }

@@ -1,77 +1,52 @@
 // Requests on addresses and on lists of words.
-use ask::fields::NOWHERE;
-use ask::{fields, put};
+use ask::answer::Answer;
+use ask::fields::Fields;
+use ask::wrong::Wrong;
 use words::{ByteAddress, Place, WordAddress};
 
-pub(crate) fn double(line: &[u8], at: usize, out: &mut [u8]) -> usize {
-    let a = fields::short(line, at);
-    if a.at != line.len() {
-        return NOWHERE;
-    }
-    let b = words::address::double(WordAddress(a.value));
-    put::number(out, at, b.0)
+pub(crate) fn double(fields: &mut Fields, out: &mut Answer) -> Result<(), Wrong> {
+    let a = WordAddress(fields.number()?);
+    fields.end()?;
+    out.number(words::address::double(a).0)
 }
 
-pub(crate) fn halve(line: &[u8], at: usize, out: &mut [u8]) -> usize {
-    let b = fields::number(line, at);
-    if b.at != line.len() {
-        return NOWHERE;
-    }
-    put_place(out, at, words::address::halve(ByteAddress(b.value)))
+pub(crate) fn halve(fields: &mut Fields, out: &mut Answer) -> Result<(), Wrong> {
+    let b = ByteAddress(fields.number()?);
+    fields.end()?;
+    put_place(out, words::address::halve(b))
 }
 
-pub(crate) fn entry_of(line: &[u8], at: usize, out: &mut [u8]) -> usize {
-    let base = fields::short(line, at);
-    let words = fields::short(line, base.at);
-    let tail = fields::byte(line, words.at);
-    let a = fields::short(line, tail.at);
-    if a.at != line.len() {
-        return NOWHERE;
-    }
-    let entry = words::address::entry_of(
-        WordAddress(base.value),
-        words.value,
-        tail.value,
-        WordAddress(a.value),
-    );
-    put::number(out, at, entry as u64)
+pub(crate) fn entry_of(fields: &mut Fields, out: &mut Answer) -> Result<(), Wrong> {
+    let base = WordAddress(fields.number()?);
+    let words = fields.number()?;
+    let tail = fields.number()?;
+    let a = WordAddress(fields.number()?);
+    fields.end()?;
+    out.number(words::address::entry_of(base, words, tail, a))
 }
 
-pub(crate) fn address_of(line: &[u8], at: usize, out: &mut [u8]) -> usize {
-    let base = fields::short(line, at);
-    let words = fields::short(line, base.at);
-    let tail = fields::byte(line, words.at);
-    let entry = fields::number(line, tail.at);
-    if entry.at != line.len() {
-        return NOWHERE;
-    }
-    let place = words::address::address_of(
-        WordAddress(base.value),
-        words.value,
-        tail.value,
-        entry.value as usize,
-    );
-    put_place(out, at, place)
+pub(crate) fn address_of(fields: &mut Fields, out: &mut Answer) -> Result<(), Wrong> {
+    let base = WordAddress(fields.number()?);
+    let words = fields.number()?;
+    let tail = fields.number()?;
+    let entry = fields.number()?;
+    fields.end()?;
+    put_place(out, words::address::address_of(base, words, tail, entry))
 }
 
 // 1 and the address, or 0 and 0.
-fn put_place(out: &mut [u8], at: usize, p: Place) -> usize {
-    match p {
-        Place::At(a) => put::two(out, at, 1, a.0 as u64),
-        Place::Nowhere => put::two(out, at, 0, 0),
-    }
+fn put_place(out: &mut Answer, p: Place) -> Result<(), Wrong> {
+    let (is_there, a) = match p {
+        Place::At(a) => (1u8, a.0),
+        Place::Nowhere => (0, 0),
+    };
+    out.number(is_there)?;
+    out.number(a)
 }
 
-pub(crate) fn is_words(line: &[u8], at: usize, w: &mut [u16], out: &mut [u8]) -> usize {
-    let list = fields::words(line, at, w);
-    let n = fields::number(line, list.at);
-    if n.at != line.len() {
-        return NOWHERE;
-    }
-    let count = list.count;
-    put::number(
-        out,
-        at,
-        words::list::is_words(&w[..count], n.value as usize) as u64,
-    )
+pub(crate) fn is_words(fields: &mut Fields, out: &mut Answer) -> Result<(), Wrong> {
+    let list = fields.words()?;
+    let n = fields.number()?;
+    fields.end()?;
+    out.number(u8::from(words::list::is_words(list, n)))
 }

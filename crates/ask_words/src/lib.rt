@@ -4,34 +4,32 @@
 mod address;
 mod text;
 
-use ask::name;
-use ask::name::UNKNOWN;
+use ask::answer::Answer;
+use ask::fields::Fields;
+use ask::wrong::Wrong;
+use numerals::hex;
 
-// The end of the answer to a request of the crate words.
-pub fn answer(
-    name: &[u8],
-    line: &[u8],
-    at: usize,
-    a: &mut [u8],
-    w: &mut [u16],
-    out: &mut [u8],
-) -> usize {
-    let which = name::place(
-        b"words.double words.halve words.entry_of words.address_of words.is_words words.digit words.capital words.digits words.byte words.word words.capital_byte words.capital_word words.put words.put_byte words.put_word words.decimal",
-        name,
-    );
-    match which {
-        0 => address::double(line, at, out),
-        1 => address::halve(line, at, out),
-        2 => address::entry_of(line, at, out),
-        3 => address::address_of(line, at, out),
-        4 => address::is_words(line, at, w, out),
-        5 => text::digit(line, at, out),
-        6 => text::capital(line, at, out),
-        7 => text::digits(line, at, out),
-        8..=11 => text::ask_value(which, line, at, a, out),
-        12..=14 => text::ask_store(which, line, at, a, out),
-        15 => text::decimal(line, at, a, out),
-        _ => UNKNOWN,
+// Puts the answer to a request of the crate words.
+pub fn answer(name: &str, fields: &mut Fields, out: &mut Answer) -> Result<(), Wrong> {
+    match name {
+        "words.double" => address::double(fields, out),
+        "words.halve" => address::halve(fields, out),
+        "words.entry_of" => address::entry_of(fields, out),
+        "words.address_of" => address::address_of(fields, out),
+        "words.is_words" => address::is_words(fields, out),
+        "words.digit" => text::digit(fields, out, hex::digit),
+        "words.capital" => text::digit(fields, out, hex::capital),
+        "words.digits" => text::digits(fields, out),
+        "words.byte" => text::value(fields, out, |s, at| u32::from(hex::byte(s, at))),
+        "words.word" => text::value(fields, out, hex::word),
+        "words.capital_byte" => {
+            text::value(fields, out, |s, at| u32::from(hex::capital_byte(s, at)))
+        }
+        "words.capital_word" => text::value(fields, out, hex::capital_word),
+        "words.put" => text::store(fields, out, hex::put),
+        "words.put_byte" => text::store(fields, out, hex::put_byte),
+        "words.put_word" => text::store(fields, out, hex::put_word),
+        "words.decimal" => text::decimal(fields, out),
+        _ => Err(Wrong::UnknownName),
     }
 }

@@ -1,99 +1,60 @@
-// Requests on hex and decimal text. Those with the same fields go one way, and `which` is the place of the request's name among all of them.
-use ask::fields::NOWHERE;
-use ask::{fields, put};
+// Requests on hex and decimal text.
+use ask::answer::Answer;
+use ask::fields::Fields;
+use ask::wrong::Wrong;
+use std::num::TryFromIntError;
 
-pub(crate) fn digit(line: &[u8], at: usize, out: &mut [u8]) -> usize {
-    let c = fields::byte(line, at);
-    if c.at != line.len() {
-        return NOWHERE;
-    }
-    put::number(out, at, numerals::hex::digit(c.value) as u64)
+// The value of a character as a digit.
+pub(crate) fn digit<V: Fn(u8) -> u8>(
+    fields: &mut Fields,
+    out: &mut Answer,
+    value: V,
+) -> Result<(), Wrong>
+    requires { V.IsAlwaysCallable value }
+{
+    let c = fields.number()?;
+    fields.end()?;
+    out.number(value(c))
 }
 
-pub(crate) fn capital(line: &[u8], at: usize, out: &mut [u8]) -> usize {
-    let c = fields::byte(line, at);
-    if c.at != line.len() {
-        return NOWHERE;
-    }
-    put::number(out, at, numerals::hex::capital(c.value) as u64)
-}
-
-pub(crate) fn digits(line: &[u8], at: usize, out: &mut [u8]) -> usize {
-    if at != line.len() {
-        return NOWHERE;
-    }
-    let table = numerals::hex::digits();
-    put::bytes(out, at, &table)
+pub(crate) fn digits(fields: &mut Fields, out: &mut Answer) -> Result<(), Wrong> {
+    fields.end()?;
+    out.bytes(&numerals::hex::digits())
 }
 
 // The value of the digits at a place.
-pub(crate) fn ask_value(
-    which: usize,
-    line: &[u8],
-    at: usize,
-    a: &mut [u8],
-    out: &mut [u8],
-) -> usize {
-    let text = fields::bytes(line, at, a);
-    let place = fields::number(line, text.at);
-    if place.at != line.len() {
-        return NOWHERE;
-    }
-    let n = text.count;
-    put::number(out, at, value(which, &a[..n], place.value as usize))
-}
-
-fn value(which: usize, text: &[u8], place: usize) -> u64 {
-    match which {
-        8 => numerals::hex::byte(text, place) as u64,
-        9 => numerals::hex::word(text, place) as u64,
-        10 => numerals::hex::capital_byte(text, place) as u64,
-        _ => numerals::hex::capital_word(text, place) as u64,
-    }
+pub(crate) fn value<V: Fn(&[u8], usize) -> u32>(
+    fields: &mut Fields,
+    out: &mut Answer,
+    value: V,
+) -> Result<(), Wrong>
+    requires { V.IsAlwaysCallable value }
+{
+    let text = fields.bytes()?;
+    let at = fields.number()?;
+    fields.end()?;
+    out.number(value(text, at))
 }
 
 // The text after a value was stored at a place.
-pub(crate) fn ask_store(
-    which: usize,
-    line: &[u8],
-    at: usize,
-    a: &mut [u8],
-    out: &mut [u8],
-) -> usize {
-    let text = fields::bytes(line, at, a);
-    let place = fields::number(line, text.at);
-    let value = fields::short(line, place.at);
-    if value.at != line.len() {
-        return NOWHERE;
-    }
-    if most(which) < value.value {
-        return NOWHERE;
-    }
-    let n = text.count;
-    let part = &mut a[..n];
-    store(which, part, place.value as usize, value.value);
-    put::bytes(out, at, part)
+pub(crate) fn store<T: Drop + TryFrom<u64, Error = TryFromIntError>, S: Fn(&mut [u8], usize, T)>(
+    fields: &mut Fields,
+    out: &mut Answer,
+    store: S,
+) -> Result<(), Wrong>
+    requires { S.IsAlwaysCallable store }
+{
+    let text = fields.bytes()?;
+    let at = fields.number()?;
+    let value = fields.number()?;
+    fields.end()?;
+    store(text, at, value);
+    out.bytes(text)
 }
 
-// The largest value that a request stores.
-fn most(which: usize) -> u16 {
-    if which < 14 { 0xff } else { 0xffff }
-}
-
-fn store(which: usize, text: &mut [u8], place: usize, value: u16) {
-    match which {
-        12 => numerals::hex::put(text, place, (value % 256) as u8),
-        13 => numerals::hex::put_byte(text, place, (value % 256) as u8),
-        _ => numerals::hex::put_word(text, place, value),
-    }
-}
-
-pub(crate) fn decimal(line: &[u8], at: usize, a: &mut [u8], out: &mut [u8]) -> usize {
-    let text = fields::bytes(line, at, a);
-    let bound = fields::long(line, text.at);
-    if bound.at != line.len() {
-        return NOWHERE;
-    }
-    let n = text.count;
-    put::number(out, at, numerals::decimal::read(&a[..n], bound.value))
+pub(crate) fn decimal(fields: &mut Fields, out: &mut Answer) -> Result<(), Wrong> {
+    let text = fields.bytes()?;
+    let bound = fields.number()?;
+    fields.end()?;
+    out.number(numerals::decimal::read(text, bound))
 }

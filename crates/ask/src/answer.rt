@@ -1,0 +1,85 @@
+// The fields of an answer, put one after another, each with the space before it.
+ghost use Rattle.std.specs.Prelude.{◌≡◌, ◌≤◌, length, IfOk};
+
+use crate::wrong::Wrong;
+use device::Device;
+use std::fmt;
+use std::fmt::{Display, Write};
+
+// An answer in a lent buffer, and how long it is so far.
+#[derive(Drop)]
+pub struct Answer<'a> {
+    out: &'a mut [u8],
+    at: usize,
+    ghost within: { at ≤ length out.now },
+}
+
+impl<'a> Answer<'a> {
+    pub fn new(out: &'a mut [u8]) -> Answer<'a> {
+        Answer { out, at: 0 }
+    }
+
+    // What has been put.
+    pub fn written(&self) -> &[u8] {
+        &self.out[..self.at]
+    }
+
+    // A text as it stands.
+    pub fn text(&mut self, s: &[u8]) -> Result<(), Wrong> {
+        if self.out.len() - self.at < s.len() {
+            return Err(Wrong::Malformed);
+        }
+        let end = self.at + s.len();
+        self.out[self.at..end].copy_from_slice(s);
+        self.at = end;
+        Ok(())
+    }
+
+    // A number in decimal digits.
+    pub fn number(&mut self, n: impl Display + Drop) -> Result<(), Wrong> {
+        write!(self, " {n}")?;
+        Ok(())
+    }
+
+    // The six numbers of a device record.
+    pub fn device(&mut self, d: Device) -> Result<(), Wrong> {
+        for n in [d.id, d.words, d.row, d.mask1, d.mask2, d.idmask] {
+            self.number(n)?;
+        }
+        Ok(())
+    }
+
+    // Bytes, two digits each, or a dash for none.
+    pub fn bytes(&mut self, s: &[u8]) -> Result<(), Wrong> {
+        if s.is_empty() {
+            return self.text(b" -");
+        }
+        self.text(b" ")?;
+        let mut digits = [0; 2];
+        for b in s {
+            numerals::hex::put_byte(&mut digits, 0, *b);
+            self.text(&digits)?;
+        }
+        Ok(())
+    }
+
+    // Words, four digits each, or a dash for none.
+    pub fn words(&mut self, s: &[u16]) -> Result<(), Wrong> {
+        if s.is_empty() {
+            return self.text(b" -");
+        }
+        self.text(b" ")?;
+        let mut digits = [0; 4];
+        for w in s {
+            numerals::hex::put_word(&mut digits, 0, *w);
+            self.text(&digits)?;
+        }
+        Ok(())
+    }
+}
+
+impl fmt::Write for Answer<'_> {
+    fn write_str(&mut self, s: &str) -> fmt::Result {
+        self.text(s.as_bytes()).map_err(|_| fmt::Error)
+    }
+}
