@@ -3,6 +3,7 @@ ghost use Rattle.std.specs.Prelude.{◌≡◌, ◌≤◌, length, IfOk};
 
 use crate::wrong::Wrong;
 use device::Device;
+use refusal::{Refusal, number_in};
 use std::fmt;
 use std::fmt::{Display, Write};
 
@@ -39,6 +40,15 @@ impl<'a> Answer<'a> {
     pub fn number(&mut self, n: impl Display + Drop) -> Result<(), Wrong> {
         write!(self, " {n}")?;
         Ok(())
+    }
+
+    // The number of a refusal and 0, or 0 and a value.
+    pub fn told<T: Display + Default + Drop>(
+        &mut self,
+        answer: Result<T, Refusal>,
+    ) -> Result<(), Wrong> {
+        self.number(number_in(&answer))?;
+        self.number(answer.unwrap_or_default())
     }
 
     // The six numbers of a device record.

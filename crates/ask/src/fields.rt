@@ -68,13 +68,13 @@ impl<'a> Fields<'a> {
     }
 
     fn bytes_up_to(&mut self, most: usize) -> Result<&'a mut [u8], Wrong> {
-        let byte = |digits: &[u8]| u8::try_from(numerals::hex::byte(digits, 0)).ok();
+        let byte = |digits: &[u8]| numerals::hex::byte(digits, 0);
         list::<_, _, 2>(self.text()?, most, &mut self.bytes, byte).ok_or(Wrong::Malformed)
     }
 
     // Words, or none.
     pub fn words(&mut self) -> Result<&'a mut [u16], Wrong> {
-        let word = |digits: &[u8]| u16::try_from(numerals::hex::word(digits, 0)).ok();
+        let word = |digits: &[u8]| numerals::hex::word(digits, 0);
         list::<_, _, 4>(self.text()?, MOST_WORDS, &mut self.words, word).ok_or(Wrong::Malformed)
     }
 

@@ -2,7 +2,7 @@
 use ask::answer::Answer;
 use ask::fields::Fields;
 use ask::wrong::Wrong;
-use words::{ByteAddress, Place, WordAddress};
+use words::{ByteAddress, WordAddress};
 
 pub(crate) fn double(fields: &mut Fields, out: &mut Answer) -> Result<(), Wrong> {
     let a = WordAddress(fields.number()?);
@@ -35,13 +35,9 @@ pub(crate) fn address_of(fields: &mut Fields, out: &mut Answer) -> Result<(), Wr
 }
 
 // 1 and the address, or 0 and 0.
-fn put_place(out: &mut Answer, p: Place) -> Result<(), Wrong> {
-    let (is_there, a) = match p {
-        Place::At(a) => (1u8, a.0),
-        Place::Nowhere => (0, 0),
-    };
-    out.number(is_there)?;
-    out.number(a)
+fn put_place(out: &mut Answer, place: Option<WordAddress>) -> Result<(), Wrong> {
+    out.number(u8::from(place.is_some()))?;
+    out.number(place.map_or(0, |a| a.0))
 }
 
 pub(crate) fn is_words(fields: &mut Fields, out: &mut Answer) -> Result<(), Wrong> {

@@ -20,12 +20,26 @@ pub fn answer(name: &str, fields: &mut Fields, out: &mut Answer) -> Result<(), W
         "words.digit" => text::digit(fields, out, hex::digit),
         "words.capital" => text::digit(fields, out, hex::capital),
         "words.digits" => text::digits(fields, out),
-        "words.byte" => text::value(fields, out, |s, at| u32::from(hex::byte(s, at))),
-        "words.word" => text::value(fields, out, hex::word),
+        "words.byte" => text::value(fields, out, |s, at| hex::byte(s, at).map_or(256, u32::from)),
+        "words.word" => text::value(
+            fields,
+            out,
+            |s, at| hex::word(s, at).map_or(65536, u32::from),
+        ),
         "words.capital_byte" => {
-            text::value(fields, out, |s, at| u32::from(hex::capital_byte(s, at)))
+            text::value(
+                fields,
+                out,
+                |s, at| hex::capital_byte(s, at).map_or(256, u32::from),
+            )
         }
-        "words.capital_word" => text::value(fields, out, hex::capital_word),
+        "words.capital_word" => {
+            text::value(
+                fields,
+                out,
+                |s, at| hex::capital_word(s, at).map_or(65536, u32::from),
+            )
+        }
         "words.put" => text::store(fields, out, hex::put),
         "words.put_byte" => text::store(fields, out, hex::put_byte),
         "words.put_word" => text::store(fields, out, hex::put_word),

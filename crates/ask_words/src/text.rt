@@ -4,8 +4,8 @@ use ask::fields::Fields;
 use ask::wrong::Wrong;
 use std::num::TryFromIntError;
 
-// The value of a character as a digit.
-pub(crate) fn digit<V: Fn(u8) -> u8>(
+// The value of a character as a digit; 16 if it is none.
+pub(crate) fn digit<V: Fn(u8) -> Option<u8>>(
     fields: &mut Fields,
     out: &mut Answer,
     value: V,
@@ -14,7 +14,7 @@ pub(crate) fn digit<V: Fn(u8) -> u8>(
 {
     let c = fields.number()?;
     fields.end()?;
-    out.number(value(c))
+    out.number(value(c).unwrap_or(16))
 }
 
 pub(crate) fn digits(fields: &mut Fields, out: &mut Answer) -> Result<(), Wrong> {
@@ -22,7 +22,7 @@ pub(crate) fn digits(fields: &mut Fields, out: &mut Answer) -> Result<(), Wrong>
     out.bytes(&numerals::hex::digits())
 }
 
-// The value of the digits at a place.
+// The value of the digits at a place; one past the largest where they do not stand there.
 pub(crate) fn value<V: Fn(&[u8], usize) -> u32>(
     fields: &mut Fields,
     out: &mut Answer,
@@ -52,9 +52,10 @@ pub(crate) fn store<T: Drop + TryFrom<u64, Error = TryFromIntError>, S: Fn(&mut 
     out.bytes(text)
 }
 
+// The number of a decimal text; one past the bound if it is none.
 pub(crate) fn decimal(fields: &mut Fields, out: &mut Answer) -> Result<(), Wrong> {
     let text = fields.bytes()?;
     let bound = fields.number()?;
     fields.end()?;
-    out.number(numerals::decimal::read(text, bound))
+    out.number(numerals::decimal::read(text, bound).map_or(u64::from(bound) + 1, u64::from))
 }
