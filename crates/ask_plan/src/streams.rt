@@ -1,8 +1,7 @@
-// Requests on the three streams.
+// Requests on the three streams. Each is answered by the number, the steps and the whole buffer.
 use ask::answer::Answer;
 use ask::fields::Fields;
 use ask::wrong::Wrong;
-use plan::Planned;
 
 pub(crate) fn update(fields: &mut Fields, out: &mut Answer) -> Result<(), Wrong> {
     let d = fields.device()?;
@@ -10,8 +9,8 @@ pub(crate) fn update(fields: &mut Fields, out: &mut Answer) -> Result<(), Wrong>
     let reading = fields.words()?;
     let stream = fields.bytes()?;
     fields.end()?;
-    let planned = plan::update(d, image, reading, stream);
-    put_planned(out, planned, stream)
+    out.told(plan::update(d, image, reading, stream))?;
+    out.bytes(stream)
 }
 
 pub(crate) fn fresh(fields: &mut Fields, out: &mut Answer) -> Result<(), Wrong> {
@@ -20,21 +19,14 @@ pub(crate) fn fresh(fields: &mut Fields, out: &mut Answer) -> Result<(), Wrong> 
     let id = fields.number()?;
     let stream = fields.bytes()?;
     fields.end()?;
-    let planned = plan::fresh(d, image, id, stream);
-    put_planned(out, planned, stream)
+    out.told(plan::fresh(d, image, id, stream))?;
+    out.bytes(stream)
 }
 
 pub(crate) fn read_back(fields: &mut Fields, out: &mut Answer) -> Result<(), Wrong> {
     let d = fields.device()?;
     let stream = fields.bytes()?;
     fields.end()?;
-    let planned = plan::read_back(d, stream);
-    put_planned(out, planned, stream)
-}
-
-// The number, the steps and the whole buffer.
-fn put_planned(out: &mut Answer, planned: Planned, stream: &[u8]) -> Result<(), Wrong> {
-    out.number(planned.number)?;
-    out.number(planned.steps)?;
+    out.told(plan::read_back(d, stream))?;
     out.bytes(stream)
 }

@@ -3,15 +3,14 @@ use ask::answer::Answer;
 use ask::fields::Fields;
 use ask::wrong::Wrong;
 use device::Device;
-use target::{Registers, Stepped};
+use refusal::{Refusal, number_in};
+use target::{Ran, Registers};
 use words::WordAddress;
 
 // One step, made by one of three calls with the same fields.
-pub(crate) fn step<S: Fn(Device, Registers, u8, u16, &mut [u16], &mut [u16]) -> Stepped>(
-    fields: &mut Fields,
-    out: &mut Answer,
-    step: S,
-) -> Result<(), Wrong>
+pub(crate) fn step<
+    S: Fn(Device, Registers, u8, u16, &mut [u16], &mut [u16]) -> Result<Registers, Refusal>,
+>(fields: &mut Fields, out: &mut Answer, step: S) -> Result<(), Wrong>
     requires { S.IsAlwaysCallable step }
 {
     let d = fields.device()?;
@@ -24,21 +23,17 @@ pub(crate) fn step<S: Fn(Device, Registers, u8, u16, &mut [u16], &mut [u16]) -> 
     let words = fields.words()?;
     let cells = fields.words()?;
     fields.end()?;
-    let stepped = step(
-        d,
-        Registers { counter, latches },
-        code,
-        payload,
-        words,
-        cells,
-    );
-    out.number(stepped.number)?;
-    out.number(stepped.registers.counter.0)?;
-    out.words(&stepped.registers.latches)?;
+    let registers = Registers { counter, latches };
+    let stepped = step(d, registers, code, payload, words, cells);
+    out.number(number_in(&stepped))?;
+    let registers = stepped.unwrap_or(registers);
+    out.number(registers.counter.0)?;
+    out.words(&registers.latches)?;
     out.words(words)?;
     out.words(cells)
 }
 
+// Beside a refusal no words are told.
 pub(crate) fn run(fields: &mut Fields, out: &mut Answer) -> Result<(), Wrong> {
     let d = fields.device()?;
     let cells = fields.words()?;
@@ -46,8 +41,17 @@ pub(crate) fn run(fields: &mut Fields, out: &mut Answer) -> Result<(), Wrong> {
     let allowance = fields.number()?;
     let words = fields.words()?;
     fields.end()?;
-    let ran = target::run(d, cells, stream, allowance, words);
-    out.number(ran.number)?;
+    let (number, ran) = match target::run(d, cells, stream, allowance, words) {
+        Ok(ran) => (0, ran),
+        Err(stopped) => (
+            stopped.refusal.number(),
+            Ran {
+                steps: stopped.steps,
+                words: 0,
+            },
+        ),
+    };
+    out.number(number)?;
     out.number(ran.steps)?;
     out.number(ran.words)?;
     out.words(cells)?;
