@@ -108,8 +108,8 @@ def is_code(crate, edit):
 
 
 def requests():
-    """The names that the crates ask_... look for, of those that answer hands to one of them."""
+    """The names that the crates ask_... match, of those that answer hands to one of them."""
     sources = "\n".join(read(file) for file in sorted(ROOT.glob("crates/ask_*/src/*.rt")))
-    names = {name for text in re.findall(r'b"([^"]+)"', sources) for name in text.split()}
-    heads = re.search(r'fn of_crate.*?b"(.*?)"', read(ROOT / "crates/answer/src/request.rt"), re.S)[1].split()
-    return {name for name in names if re.fullmatch(r"\w+\.\w+", name) and name.split(".")[0] in heads}
+    heads = re.findall(r'^ *((?:"\w+" \| )*"\w+") => ask_', read(ROOT / "crates/answer/src/request.rt"), re.M)
+    heads = {head for arm in heads for head in re.findall(r"\w+", arm)}
+    return {name for name in re.findall(r'^ *"(\w+\.\w+)" =>', sources, re.M) if name.split(".")[0] in heads}

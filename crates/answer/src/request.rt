@@ -1,7 +1,5 @@
 // One line: a comment, or a request with its name, its fields and its answer.
-use ask::answer::Answer;
-use ask::fields::Fields;
-use ask::wrong::Wrong;
+use ask::{Answer, Fields, Wrong};
 
 // Puts the answer to a line, with the LF that ends it. A comment is its own answer. The answer to a request begins with the request's own name.
 pub(crate) fn answer(

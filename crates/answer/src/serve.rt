@@ -1,6 +1,6 @@
 // Requests are read and answered one after another, to the end of the input or the first that is malformed.
 use crate::request;
-use ask::answer::Answer;
+use ask::Answer;
 use ask::room::Room;
 use ask_io::{LF, Stop};
 use std::io::Read;

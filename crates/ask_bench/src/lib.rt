@@ -1,9 +1,7 @@
 // Requests on what the programs print.
 #![tactic(auto)]
 
-use ask::answer::Answer;
-use ask::fields::Fields;
-use ask::wrong::Wrong;
+use ask::{Answer, Fields, Wrong};
 
 // Puts the answer to a request on a program's text.
 pub fn answer(name: &str, fields: &mut Fields, out: &mut Answer) -> Result<(), Wrong> {

@@ -1,7 +1,5 @@
 // Requests on a table and a sheet, opened.
-use ask::answer::Answer;
-use ask::fields::Fields;
-use ask::wrong::Wrong;
+use ask::{Answer, Fields, Wrong};
 use board::{MOST_READING, Opened};
 
 pub(crate) fn open_record(fields: &mut Fields, out: &mut Answer) -> Result<(), Wrong> {

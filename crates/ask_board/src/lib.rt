@@ -4,9 +4,7 @@
 mod boards;
 mod texts;
 
-use ask::answer::Answer;
-use ask::fields::Fields;
-use ask::wrong::Wrong;
+use ask::{Answer, Fields, Wrong};
 
 // Puts the answer to a request of the crates board and print.
 pub fn answer(name: &str, fields: &mut Fields, out: &mut Answer) -> Result<(), Wrong> {

@@ -1,7 +1,5 @@
 // Requests on texts that are printed to a lent buffer. Each is answered by the whole text's length and the whole buffer.
-use ask::answer::Answer;
-use ask::fields::Fields;
-use ask::wrong::Wrong;
+use ask::{Answer, Fields, Wrong};
 use words::WordAddress;
 
 pub(crate) fn refusal(fields: &mut Fields, out: &mut Answer) -> Result<(), Wrong> {

@@ -5,9 +5,7 @@ mod readings;
 mod records;
 mod sheets;
 
-use ask::answer::Answer;
-use ask::fields::Fields;
-use ask::wrong::Wrong;
+use ask::{Answer, Fields, Wrong};
 
 // Puts the answer to a request of the crates device, judge and sheet.
 pub fn answer(name: &str, fields: &mut Fields, out: &mut Answer) -> Result<(), Wrong> {

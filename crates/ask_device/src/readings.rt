@@ -1,7 +1,5 @@
 // Requests on checksums and verdicts.
-use ask::answer::Answer;
-use ask::fields::Fields;
-use ask::wrong::Wrong;
+use ask::{Answer, Fields, Wrong};
 
 pub(crate) fn checksum(fields: &mut Fields, out: &mut Answer) -> Result<(), Wrong> {
     let d = fields.device()?;

@@ -1,7 +1,5 @@
 // Requests on device records, the device table, and the kinds of words and lists.
-use ask::answer::Answer;
-use ask::fields::Fields;
-use ask::wrong::Wrong;
+use ask::{Answer, Fields, Wrong};
 
 pub(crate) fn judge(fields: &mut Fields, out: &mut Answer) -> Result<(), Wrong> {
     let d = fields.device()?;

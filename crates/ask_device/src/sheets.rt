@@ -1,7 +1,5 @@
 // Requests on board sheets.
-use ask::answer::Answer;
-use ask::fields::Fields;
-use ask::wrong::Wrong;
+use ask::{Answer, Fields, Wrong};
 use sheetwrite::Written;
 
 pub(crate) fn read_sheet(fields: &mut Fields, out: &mut Answer) -> Result<(), Wrong> {

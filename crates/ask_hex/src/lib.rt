@@ -1,9 +1,7 @@
 // Requests on HEX text and its lines.
 #![tactic(auto)]
 
-use ask::answer::Answer;
-use ask::fields::Fields;
-use ask::wrong::Wrong;
+use ask::{Answer, Fields, Wrong};
 use lines::NextLine;
 
 // Puts the answer to a request on HEX text.

@@ -3,7 +3,7 @@
 
 ghost use Rattle.std.specs.Prelude.{◌≡◌, ◌≤◌, length, take, IfOk};
 
-use ask::wrong::Wrong;
+use ask::Wrong;
 use std::io::Read;
 use std::{fmt, io};
 

@@ -1,8 +1,6 @@
 // Requests on wanted words, on where they differ and rise, and on what the planners refuse.
 use aim::Aim;
-use ask::answer::Answer;
-use ask::fields::Fields;
-use ask::wrong::Wrong;
+use ask::{Answer, Fields, Wrong};
 use refusal::number_in;
 
 // The three fields of an aim.

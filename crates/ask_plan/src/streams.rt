@@ -1,7 +1,5 @@
 // Requests on the three streams. Each is answered by the number, the steps and the whole buffer.
-use ask::answer::Answer;
-use ask::fields::Fields;
-use ask::wrong::Wrong;
+use ask::{Answer, Fields, Wrong};
 
 pub(crate) fn update(fields: &mut Fields, out: &mut Answer) -> Result<(), Wrong> {
     let d = fields.device()?;

@@ -4,9 +4,7 @@
 mod model;
 mod texts;
 
-use ask::answer::Answer;
-use ask::fields::Fields;
-use ask::wrong::Wrong;
+use ask::{Answer, Fields, Wrong};
 
 // Puts the answer to a request of the crates target and lent.
 pub fn answer(name: &str, fields: &mut Fields, out: &mut Answer) -> Result<(), Wrong> {

@@ -1,7 +1,5 @@
 // Requests on single steps and runs of the target model.
-use ask::answer::Answer;
-use ask::fields::Fields;
-use ask::wrong::Wrong;
+use ask::{Answer, Fields, Wrong};
 use device::Device;
 use refusal::{Refusal, number_in};
 use target::{Ran, Registers};

@@ -1,7 +1,5 @@
 // Requests on the lines of a text, that a reader of them is lent for.
-use ask::answer::Answer;
-use ask::fields::Fields;
-use ask::wrong::Wrong;
+use ask::{Answer, Fields, Wrong};
 
 pub(crate) fn first_number(fields: &mut Fields, out: &mut Answer) -> Result<(), Wrong> {
     let text = fields.bytes()?;

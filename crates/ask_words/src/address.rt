@@ -1,7 +1,5 @@
 // Requests on addresses and on lists of words.
-use ask::answer::Answer;
-use ask::fields::Fields;
-use ask::wrong::Wrong;
+use ask::{Answer, Fields, Wrong};
 use words::{ByteAddress, WordAddress};
 
 pub(crate) fn double(fields: &mut Fields, out: &mut Answer) -> Result<(), Wrong> {

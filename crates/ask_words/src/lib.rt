@@ -4,9 +4,7 @@
 mod address;
 mod text;
 
-use ask::answer::Answer;
-use ask::fields::Fields;
-use ask::wrong::Wrong;
+use ask::{Answer, Fields, Wrong};
 use numerals::hex;
 
 // Puts the answer to a request of the crate words.

@@ -1,7 +1,5 @@
 // Requests on hex and decimal text.
-use ask::answer::Answer;
-use ask::fields::Fields;
-use ask::wrong::Wrong;
+use ask::{Answer, Fields, Wrong};
 use std::num::TryFromIntError;
 
 // The value of a character as a digit; 16 if it is none.
