@@ -2,10 +2,10 @@
 ghost use Rattle.std.specs.Prelude.{◌≡◌, ◌≤◌, length, IfOk};
 
 use crate::wrong::Wrong;
-use device::Device;
 use refusal::{Refusal, number_in};
 use std::fmt;
 use std::fmt::{Display, Write};
+use table::Found;
 
 // An answer in a lent buffer, and how long it is so far.
 #[derive(Drop)]
@@ -51,9 +51,15 @@ impl<'a> Answer<'a> {
         self.number(answer.unwrap_or_default())
     }
 
-    // The six numbers of a device record.
-    pub fn device(&mut self, d: Device) -> Result<(), Wrong> {
-        for n in [d.id, d.words, d.row, d.mask1, d.mask2, d.idmask] {
+    // A record, and where its name stands in its table; zeros for none.
+    pub fn found(&mut self, found: Option<Found>) -> Result<(), Wrong> {
+        let numbers = found.map_or([0; 8], |f| {
+            let d = f.device;
+            let record = [d.id, d.words, d.row, d.mask1, d.mask2, d.idmask];
+            let [id, words, row, mask1, mask2, idmask] = record.map(usize::from);
+            [id, words, row, mask1, mask2, idmask, f.name_at, f.name_len]
+        });
+        for n in numbers {
             self.number(n)?;
         }
         Ok(())

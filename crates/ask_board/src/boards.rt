@@ -1,12 +1,14 @@
-// Requests on a table and a sheet, opened.
+// Requests on a table and a sheet, opened. What the table has for the sheet's ID is told beside a refusal too.
 use ask::{Answer, Fields, Wrong};
-use board::{MOST_READING, Opened};
+use board::MOST_READING;
+use refusal::number_in;
 
 pub(crate) fn open_record(fields: &mut Fields, out: &mut Answer) -> Result<(), Wrong> {
     let table = fields.bytes()?;
     let sheet = fields.bytes()?;
     fields.end()?;
-    put_opened(out, board::open_record(table, sheet))
+    out.number(number_in(&board::open_record(table, sheet)))?;
+    put_found(out, table, sheet)
 }
 
 // The reading's array is filled with one word before.
@@ -16,15 +18,13 @@ pub(crate) fn open_board(fields: &mut Fields, out: &mut Answer) -> Result<(), Wr
     let fill = fields.number()?;
     fields.end()?;
     let mut reading = [fill; MOST_READING];
-    let opened = board::open_board(table, sheet, &mut reading);
-    put_opened(out, opened)?;
+    out.number(number_in(&board::open_board(table, sheet, &mut reading)))?;
+    put_found(out, table, sheet)?;
     out.words(&reading)
 }
 
-// The number, the record, and where its name stands.
-fn put_opened(out: &mut Answer, opened: Opened) -> Result<(), Wrong> {
-    out.number(opened.number)?;
-    out.device(opened.device)?;
-    out.number(opened.name_at)?;
-    out.number(opened.name_len)
+// What the search answers for the sheet's ID, which is 0 where line 1 has none.
+fn put_found(out: &mut Answer, table: &[u8], sheet: &[u8]) -> Result<(), Wrong> {
+    let id = sheet::read_id(sheet).unwrap_or(0);
+    out.found(table::find_device(table, id).ok())
 }

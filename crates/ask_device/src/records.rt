@@ -1,16 +1,17 @@
 // Requests on device records, the device table, and the kinds of words and lists.
 use ask::{Answer, Fields, Wrong};
+use refusal::number_in;
 
 pub(crate) fn judge(fields: &mut Fields, out: &mut Answer) -> Result<(), Wrong> {
     let d = fields.device()?;
     fields.end()?;
-    out.number(device::judge(d))
+    out.number(number_in(&device::judge(d)))
 }
 
 pub(crate) fn judge_table(fields: &mut Fields, out: &mut Answer) -> Result<(), Wrong> {
     let table = fields.bytes()?;
     fields.end()?;
-    out.number(table::judge_table(table))
+    out.number(number_in(&table::judge_table(table)))
 }
 
 // The number, the record, and where its name stands.
@@ -18,11 +19,9 @@ pub(crate) fn find_device(fields: &mut Fields, out: &mut Answer) -> Result<(), W
     let table = fields.bytes()?;
     let id = fields.number()?;
     fields.end()?;
-    let f = table::find_device(table, id);
-    out.number(f.number)?;
-    out.device(f.device)?;
-    out.number(f.name_at)?;
-    out.number(f.name_len)
+    let found = table::find_device(table, id);
+    out.number(number_in(&found))?;
+    out.found(found.ok())
 }
 
 // Whether a list is of a kind, for a device of so many words.

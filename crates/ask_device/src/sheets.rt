@@ -1,6 +1,6 @@
 // Requests on board sheets.
 use ask::{Answer, Fields, Wrong};
-use sheetwrite::Written;
+use refusal::{Refusal, number_in};
 
 pub(crate) fn read_sheet(fields: &mut Fields, out: &mut Answer) -> Result<(), Wrong> {
     let d = fields.device()?;
@@ -8,16 +8,14 @@ pub(crate) fn read_sheet(fields: &mut Fields, out: &mut Answer) -> Result<(), Wr
     let text = fields.bytes()?;
     let reading = fields.words()?;
     fields.end()?;
-    out.number(sheet::read_sheet(d, name, text, reading))?;
+    out.number(number_in(&sheet::read_sheet(d, name, text, reading)))?;
     out.words(reading)
 }
 
 pub(crate) fn read_id(fields: &mut Fields, out: &mut Answer) -> Result<(), Wrong> {
     let text = fields.bytes()?;
     fields.end()?;
-    let first = sheet::read_id(text);
-    out.number(first.number)?;
-    out.number(first.id)
+    out.told(sheet::read_id(text))
 }
 
 pub(crate) fn write_sheet(fields: &mut Fields, out: &mut Answer) -> Result<(), Wrong> {
@@ -25,8 +23,8 @@ pub(crate) fn write_sheet(fields: &mut Fields, out: &mut Answer) -> Result<(), W
     let reading = fields.words()?;
     let text = fields.bytes()?;
     fields.end()?;
-    let written = sheetwrite::write_sheet(d, reading, text);
-    put_written(out, written, text)
+    out.told(sheetwrite::write_sheet(d, reading, text))?;
+    out.bytes(text)
 }
 
 pub(crate) fn write_new_sheet(fields: &mut Fields, out: &mut Answer) -> Result<(), Wrong> {
@@ -35,12 +33,12 @@ pub(crate) fn write_new_sheet(fields: &mut Fields, out: &mut Answer) -> Result<(
     let reading = fields.words()?;
     let text = fields.bytes()?;
     fields.end()?;
-    let written = sheetwrite::write_new_sheet(d, name, reading, text);
-    put_written(out, written, text)
+    out.told(sheetwrite::write_new_sheet(d, name, reading, text))?;
+    out.bytes(text)
 }
 
-// Table, sheet and the lent buffer, moved to either form.
-pub(crate) fn move_sheet<M: Fn(&[u8], &[u8], &mut [u8]) -> Written>(
+// A sheet moved to either form.
+pub(crate) fn move_sheet<M: Fn(&[u8], &[u8], &mut [u8]) -> Result<usize, Refusal>>(
     fields: &mut Fields,
     out: &mut Answer,
     moved: M,
@@ -51,13 +49,6 @@ pub(crate) fn move_sheet<M: Fn(&[u8], &[u8], &mut [u8]) -> Written>(
     let sheet = fields.bytes()?;
     let text = fields.bytes()?;
     fields.end()?;
-    let written = moved(table, sheet, text);
-    put_written(out, written, text)
-}
-
-// The number, the length and the whole buffer.
-fn put_written(out: &mut Answer, written: Written, text: &[u8]) -> Result<(), Wrong> {
-    out.number(written.number)?;
-    out.number(written.length)?;
+    out.told(moved(table, sheet, text))?;
     out.bytes(text)
 }

@@ -21,10 +21,13 @@ fn read_hex(fields: &mut Fields, out: &mut Answer) -> Result<(), Wrong> {
     let text = fields.hex_text()?;
     let image = fields.words()?;
     fields.end()?;
-    let read = hexread::read_hex(d, text, image);
-    out.number(read.number)?;
-    out.number(read.line)?;
-    out.number(read.column)?;
+    let (number, line, column) = match hexread::read_hex(d, text, image) {
+        Ok(()) => (0, 0, 0),
+        Err(misread) => (misread.refusal.number(), misread.line, misread.column),
+    };
+    out.number(number)?;
+    out.number(line)?;
+    out.number(column)?;
     out.words(image)
 }
 
@@ -33,9 +36,7 @@ fn write_hex(fields: &mut Fields, out: &mut Answer) -> Result<(), Wrong> {
     let image = fields.words()?;
     let text = fields.hex_text()?;
     fields.end()?;
-    let written = hexwrite::write_hex(d, image, text);
-    out.number(written.number)?;
-    out.number(written.length)?;
+    out.told(hexwrite::write_hex(d, image, text))?;
     out.bytes(text)
 }
 

@@ -1,7 +1,7 @@
 // The lines of standard input, and why no more of them are answered.
 #![tactic(auto)]
 
-ghost use Rattle.std.specs.Prelude.{◌≡◌, ◌≤◌, length, take, IfOk};
+ghost use Rattle.std.specs.Prelude.{◌≡◌, ◌<◌, ◌≤◌, ◌↔◌, length, take, IfOk, IsOk, IsErrOf};
 
 use ask::Wrong;
 use std::io::Read;
@@ -59,8 +59,11 @@ pub fn keep(text: &mut [u8], from: usize, have: usize) -> usize
     end - from
 }
 
-// Whether so many bytes may be left at the end of the input: they belong to a line that has no end.
-pub fn end(text: &[u8], have: usize) -> Result<(), Wrong> {
+// What is wrong with so many bytes that are left when the input ends: a line that is too long for the buffer, or one that has no end.
+pub fn end(text: &[u8], have: usize) -> Result<(), Wrong>
+    ensures sound { IsOk result ↔ (have ≡ 0 × 0 < length text.now) }
+    ensures long { IsErrOf result Wrong.TooLong ↔ (length text.now ≤ have) }
+{
     if text.len() <= have {
         Err(Wrong::TooLong)
     } else if 0 < have {
