@@ -8,7 +8,8 @@ use Rattle.std.proofs.Math.Bool.{true, false}
 use mathlib.Core.List.{List, [], ◌∷◌, ◌++◌, append_assoc, append-nil}
 use Rattle.std.proofs.Math.Dec.{leb}
 use Rattle.std.proofs.Math.ListN.{length}
-use Rattle.std.proofs.Math.Seq.{sets, take-length}
+use Rattle.std.proofs.Math.Seq.{sets, take-length, drop-append_seam}
+use Rattle.std.proofs.lemmas.List.{get_or_append_left}
 use Rattle.std.proofs.lemmas.List.Edits.{sets-eq}
 use borrow.Author.Tests.{le-leb, lt-leb, leb-true}
 use Rattle.words.specs.Choice.{pick}
@@ -100,13 +101,24 @@ module _ (l s : List ℕ) where
       let rest : program_lines n (k + 1) s ≡ program_lines n (k + 1) l = lines_part n (k + 1) (λ i q. h i (omega arith)) in
       (λ x. (word_text (8 * k) ++ (here x ++ lf ∷ [])) ++ rest x)
 
--- eight words, as the code cuts them
-pub line_cut : (l s : List ℕ) (k : ℕ) → 8 * k + 8 ≤ length l → s ≡ take (8 * k + 8 - 8 * k) (drop (8 * k) l) → line_text (8 * k) (length s) 0 s ≡ line_text (8 * k) 8 (8 * k) l
-line_cut l s k h e =
-    let long : length s ≡ 8 = ap length e ∙ length-take-le (8 * k + 8 - 8 * k) (drop (8 * k) l) (rw length-drop (omega arith)) ∙ omega arith in
-    rw long
-    (line_part l s (8 * k) 8 (8 * k)
-    (λ i q. ap (λ x. get_or x i 0) e ∙ (get_or-take (8 * k + 8 - 8 * k) (drop (8 * k) l) i 0 (omega arith) ∙ get_or-drop (8 * k) l i 0)))
+-- eight words more of a list
+module _ (l rest eight after : List ℕ) (k : ℕ) (e : rest ≡ drop (8 * k) l) (f : rest ≡ eight ++ after) (long : length eight ≡ 8) where
+  pub eight_within : 8 * k + 8 ≤ length l
+  eight_within =
+      let a : length rest ≡ length l - 8 * k = ap length e ∙ length-drop (8 * k) l in
+      let b : length rest ≡ length eight + length after = ap length f ∙ length-append eight after in
+      omega arith
+
+  pub eight_after : after ≡ drop (8 * (k + 1)) l
+  eight_after =
+      let place : 8 * k + 8 ≡ 8 * (k + 1) = omega arith in
+      sym (drop-append_seam eight after) ∙ (λ i. drop (long i) ((sym f ∙ e) i)) ∙ (drop-drop 8 (8 * k) l ∙ ap (λ n. drop n l) place)
+
+  pub eight_line : line_text (8 * k) (length eight) 0 eight ≡ line_text (8 * k) 8 (8 * k) l
+  eight_line =
+      rw long
+      (line_part l eight (8 * k) 8 (8 * k)
+      (λ i q. sym (get_or_append_left eight after 0 i (omega arith)) ∙ (ap (λ x. get_or x i 0) (sym f ∙ e) ∙ get_or-drop (8 * k) l i 0)))
 
 module _ (at n k : ℕ) (l o p : List ℕ) (h : k < n) where
   pub lines_turn : p ≡ sets o (at + 45 * k) (line_text (8 * k) 8 (8 * k) l) → sets o (at + 45 * k) (program_lines (n - k) k l) ≡ sets p (at + 45 * (k + 1)) (program_lines (n - (k + 1)) (k + 1) l)

@@ -108,8 +108,8 @@ fn put_lines(out: &mut [u8], at: usize, words: &[u16])
     requires { (length words.now ≤ most_words) × (at + 45 * (length words.now / 8) ≤ length out.old) }
     ensures { out.new ≡ sets out.old at (program_lines (length words.now / 8) 0 words.now) }
 {
-    for k in 0..words.len() / 8 {
-        put_line(out, at + 45 * k, (8 * k) as u16, &words[8 * k..8 * k + 8]);
+    for (k, eight) in words.chunks_exact(8).enumerate() {
+        put_line(out, at + 45 * k, (8 * k) as u16, eight);
     }
 }
 
