@@ -1,6 +1,6 @@
 -- Laws of an opened board: what the code's parts come to, what a caller has of a board that is not refused, and which text comes of one that is.
-use Rattle.std.specs.Prelude.{ℕ, ◌+◌, ◌≤◌, ◌≡◌, refl, true, List, ◌++◌, eqb, length, replicate}
-use Rattle.std.proofs.Common.{zero-add, arith, ◌∙◌, take-append-drop, length-take-le, take_at, eq-eqb, ne_eqb}
+use Rattle.std.specs.Prelude.{ℕ, ◌+◌, ◌≤◌, ◌<◌, ◌≡◌, refl, true, List, ◌++◌, eqb, length, replicate}
+use Rattle.std.proofs.Common.{zero-add, arith, ◌∙◌, length-take-le, take_at, eq-eqb, ne_eqb}
 use Rattle.std.proofs.Math.Decide.{ℕ_discrete}
 use Rattle.std.proofs.Math.Path.{sym, ap}
 use Rattle.std.proofs.Math.ListN.{take, drop}
@@ -15,8 +15,14 @@ use Rattle.device.specs.Memory.{reading_tail, reading_ok}
 use Rattle.table.specs.Table.{name_ok}
 use Rattle.sheet.specs.Sheet.{sheet_ok, words_in, sheet_number, read_number, read_buffer}
 use Rattle.sheet.specs.LawsSheet.{length_words, read_sound, taken}
-use Rattle.board.specs.Open.{most_program, record_of, name_of, open_number, board_number, board_reading, opened_reading}
-use Rattle.board.specs.LawsOpen.{served_most, opened_sound, opened_named, opened_served, read_number_lem, sheet_words}
+use Rattle.refusal.specs.declared.Refusal.{Refusal}
+use Rattle.refusal.specs.Refusal.{number_of}
+use Rattle.refusal.specs.LawsRefusal.{number_of_positive}
+use Rattle.table.specs.declared.Found.{Found as Place}
+use Rattle.print.specs.Print.{refused_text}
+use Rattle.board.specs.LawsFront.{front_number, front_stored, front_stays}
+use Rattle.board.specs.Open.{most_program, record_of, name_of, place_of, open_number, board_number, board_reading, opened_reading}
+use Rattle.board.specs.LawsOpen.{served_most, opened_sound, opened_named, opened_served, name_is}
 
 -- the most words that the reading of a board has
 abbrev pub most_reading : ℕ
@@ -64,54 +70,48 @@ module _ (table sheet : List ℕ) where
 
   -- ---- what the code's parts come to
 
-  pub kept_refused : (number : ℕ) → number ≡ open_number table sheet → (number ≡ 0 → ⊥) → number ≡ board_number table sheet
-  kept_refused number e n = e ∙ sym (board_refused (λ z. n (e ∙ z)))
+  pub board_unopened : (e : Refusal) → number_of e ≡ open_number table sheet → number_of e ≡ board_number table sheet
+  board_unopened e p = p ∙ sym (board_refused (λ z. let n : 0 < number_of e = number_of_positive e in omega (arith, p ∙ z)))
 
-  pub kept_buffer : (number : ℕ) → number ≡ board_number table sheet → (number ≡ 0 → ⊥) → (before : List ℕ) → before ≡ opened_reading table sheet before
+  -- a refusal leaves the buffer
+  pub board_kept : (e : Refusal) → number_of e ≡ board_number table sheet → (before : List ℕ) → before ≡ opened_reading table sheet before
   unfolding opened_reading
-  kept_buffer number e n before = sym (pick_false _ _ _ (ne_eqb (board_number table sheet) 0 (λ z. n (e ∙ z))))
+  board_kept e p before = sym (pick_false _ _ _ (ne_eqb (board_number table sheet) 0 (λ z. let n : 0 < number_of e = number_of_positive e in omega (arith, p ∙ z))))
 
   -- the sheet is read into the first words of the buffer
-  module _ (z : open_number table sheet ≡ 0) (d : Device) (is : d ≡ record_of table sheet) (name : List ℕ) (cut : name ≡ name_of table sheet) (before : List ℕ) (long : length before ≡ most_reading) where
-    keeps : device_ok d ≡ true
-    keeps = ap device_ok is ∙ opened_sound table sheet z
+  module _ (z : 0 ≡ open_number table sheet) (f : Place) (is : f ≡ place_of table sheet) (before : List ℕ) (long : length before ≡ most_reading) where
+    keeps : device_ok f.device ≡ true
+    keeps = ap (λ x. device_ok x.device) is ∙ opened_sound table sheet (sym z)
 
-    named : name_ok name ≡ true
-    named = ap name_ok cut ∙ opened_named table sheet z
+    named : (name : List ℕ) → name ≡ take f.name_len (drop f.name_at table) → name ≡ name_of table sheet
+    named name e = e ∙ name_is table sheet f is
 
-    pub read_room : d.words + reading_tail ≤ length before
-    read_room = let most : d.words ≤ most_program = served_most d (ap (device_up_to most_program) is ∙ opened_served table sheet z) in omega arith
+    name_sound : (name : List ℕ) → name ≡ take f.name_len (drop f.name_at table) → name_ok name ≡ true
+    name_sound name e = ap name_ok (named name e) ∙ opened_named table sheet (sym z)
 
-    front_long : length (take (d.words + reading_tail) before) ≡ d.words + reading_tail
-    front_long = length-take-le (d.words + reading_tail) before read_room
+    pub read_room : f.device.words + reading_tail ≤ length before
+    read_room =
+        let most : f.device.words ≤ most_program = served_most f.device (ap (λ x. device_up_to most_program x.device) is ∙ opened_served table sheet (sym z)) in
+        omega arith
 
-    module _ (number : ℕ) (e : number ≡ read_number d name sheet (take (d.words + reading_tail) before)) where
+    module _ (name : List ℕ) (cut : name ≡ take f.name_len (drop f.name_at table)) (number : ℕ) (e : number ≡ read_number f.device name sheet (take (f.device.words + reading_tail) before)) where
       pub read_number_is : number ≡ board_number table sheet
       read_number_is =
-          read_number_lem d keeps name named sheet (take (d.words + reading_tail) before) front_long number e
-          ∙ ((λ i. sheet_number (is i) (cut i) sheet) ∙ sym (board_found z))
+          front_number f.device keeps name (name_sound name cut) sheet before read_room number e
+          ∙ ((λ i. sheet_number (is i).device (named name cut i) sheet) ∙ sym (board_found (sym z)))
 
-      pub read_reading : (after : List ℕ) → after ≡ read_buffer d name sheet (take (d.words + reading_tail) before) ++ drop (d.words + reading_tail) before → after ≡ opened_reading table sheet before
-      read_reading after f = f ∙ by (ℕ_discrete number 0)
-        where
-          words : List ℕ
-          words = read_buffer d name sheet (take (d.words + reading_tail) before)
+      module _ (after : List ℕ) (w : after ≡ read_buffer f.device name sheet (take (f.device.words + reading_tail) before) ++ drop (f.device.words + reading_tail) before) where
+        pub read_stored : number ≡ 0 → after ≡ opened_reading table sheet before
+        unfolding opened_reading board_reading
+        read_stored y =
+            front_stored f.device keeps name (name_sound name cut) sheet before read_room number e after w y
+            ∙ (ap (λ x. sets before 0 (words_in x.device.words sheet)) is ∙ sym (pick_true _ _ _ (eq-eqb (board_number table sheet) 0 (sym read_number_is ∙ y))))
 
-          by : Dec (number ≡ 0) → words ++ drop (d.words + reading_tail) before ≡ opened_reading table sheet before
-          by (yes y) =
-              let these : words ≡ words_in d.words sheet = sheet_words d keeps name named sheet (take (d.words + reading_tail) before) front_long number e y words refl in
-              let count : length (words_in d.words sheet) ≡ d.words + reading_tail = length_words d.words sheet in
-              let fits : 0 + length (words_in d.words sheet) ≤ length before = rw (zero-add, count) read_room in
-              let stored : sets before 0 (words_in d.words sheet) ≡ words_in d.words sheet ++ drop (0 + length (words_in d.words sheet)) before = sets-eq
-              (words_in d.words sheet) before 0 fits in
-              ap (λ x. x ++ drop (d.words + reading_tail) before) these
-              ∙ (ap (λ n. words_in d.words sheet ++ drop n before) (sym (zero-add (length (words_in d.words sheet)) ∙ count))
-              ∙ (sym stored
-              ∙ (unfold opened_reading board_reading in ap (λ x. sets before 0 (words_in x.words sheet)) is ∙ sym (pick_true _ _ _ (eq-eqb (board_number table sheet) 0 (sym read_number_is ∙ y))))))
-          by (no n) =
-              let stays : words ≡ take (d.words + reading_tail) before = (unfold read_buffer in pick_false _ _ _
-              (ne_eqb (read_number d name sheet (take (d.words + reading_tail) before)) 0 (λ y. n (e ∙ y)))) in
-              ap (λ x. x ++ drop (d.words + reading_tail) before) stays ∙ (take-append-drop (d.words + reading_tail) before ∙ kept_buffer number read_number_is n before)
+        pub read_kept : (number ≡ 0 → ⊥) → after ≡ opened_reading table sheet before
+        unfolding opened_reading
+        read_kept n =
+            front_stays f.device keeps name (name_sound name cut) sheet before read_room number e after w n
+            ∙ sym (pick_false _ _ _ (ne_eqb (board_number table sheet) 0 (λ y. n (read_number_is ∙ y))))
 
 -- ---- what a caller has of a board that is not refused, in a buffer of the most words
 
@@ -183,10 +183,33 @@ module _ (table sheet : List ℕ) (number : ℕ) (e : number ≡ board_number ta
   pub board_text : (text other : List ℕ) → number ≡ 0 → text ≡ pick (eqb (board_number table sheet) 0) text other
   board_text text other z = sym (pick_true _ _ _ (eq-eqb (board_number table sheet) 0 (sym e ∙ z)))
 
--- a local buffer of the most words
+-- ---- what a program prints that answers a text or a refusal
+
+-- a text that was written into a buffer stands in so many bytes at its start
+pub record Holds (text : List ℕ) (n : ℕ) (out : List ℕ) : Type 0 where
+  pub within : n ≤ length out
+  pub whole : take n out ≡ text
+
+-- a refusal is printed by its number
+pub refusal_text : (n : ℕ) (text : List ℕ) (e : Refusal) → number_of e ≡ n → refused_text (number_of e) 0 0 ≡ pick (eqb n 0) text (refused_text n 0 0)
+refusal_text n text e p =
+    ap (λ k. refused_text k 0 0) p
+    ∙ sym (pick_false _ _ _ (ne_eqb n 0 (λ z. let m : 0 < number_of e = number_of_positive e in omega (arith, p ∙ z))))
+
+-- and an answer by its text
+pub answer_text : (n : ℕ) (text other : List ℕ) → 0 ≡ n → text ≡ pick (eqb n 0) text other
+answer_text n text other z = sym (pick_true _ _ _ (eq-eqb n 0 (sym z)))
+
+-- ---- a board in a local buffer of the most words
+
 pub board_opened : (table sheet : List ℕ) (number : ℕ) → number ≡ board_number table sheet → number ≡ 0 → (d : Device) → d ≡ record_of table sheet
     → (reading : List ℕ) → reading ≡ opened_reading table sheet (replicate most_reading 0) → Board table sheet d reading
 board_opened table sheet number e z d is reading f = board_in table sheet number e z d is (replicate most_reading 0) (length-replicate {A = ℕ} most_reading 0) reading f
+
+-- as it is answered
+pub board_answered : (table sheet : List ℕ) → 0 ≡ board_number table sheet → (f : Place) → f ≡ place_of table sheet
+    → (reading : List ℕ) → reading ≡ opened_reading table sheet (replicate most_reading 0) → Board table sheet f.device reading
+board_answered table sheet z f is = board_opened table sheet 0 z refl f.device (ap (λ x. x.device) is)
 
 -- another local buffer of the most words has room for a reading too
 module _ (table sheet : List ℕ) (d : Device) (reading : List ℕ) (b : Board table sheet d reading) (v : ℕ) where

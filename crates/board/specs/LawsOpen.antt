@@ -1,37 +1,32 @@
 -- Laws of a board's record, from what the code's parts answer.
-use Rattle.std.specs.Prelude.{ℕ, ◌+◌, ◌-◌, ◌≤◌, ◌≡◌, Bool, List, leb, eqb, length, drop}
+use Rattle.std.specs.Prelude.{ℕ, ◌+◌, ◌≤◌, ◌<◌, ◌≡◌, Result, Ok, Err, IfOk, Bool, List, leb, eqb, length, drop}
 use native.Mathlib.Omega.{arith}
 use Rattle.std.proofs.Math.Path.{refl, ap}
 use Rattle.std.proofs.Common.{sym, ◌∙◌}
 use Rattle.std.proofs.Math.Bool.{true, false}
 use Rattle.std.proofs.Math.ListN.{take}
-use borrow.Author.Tests.{eq-eqb, eqb-true, leb-true}
-use Rattle.words.specs.Choice.{pick, unless}
-use Rattle.words.specs.LawsChoice.{both}
+use Rattle.std.specs.Result.{result_and}
+use Rattle.refusal.specs.declared.Refusal.{Refusal}
+use Rattle.refusal.specs.Refusal.{number_of, number_in}
+use Rattle.refusal.specs.LawsRefusal.{number_of_unique, number_of_positive}
+use borrow.Author.Tests.{eq-eqb, ne_eqb, eqb-true, le-leb, lt-leb, leb-true}
+use Rattle.words.specs.Choice.{pick}
+use Rattle.words.specs.LawsTests.{by_eq}
+use Rattle.words.specs.LawsChoice.{pick_true, pick_false, both}
 use Rattle.device.specs.declared.Device.{Device}
-use Rattle.table.specs.declared.Found.{Found}
+use Rattle.table.specs.declared.Found.{Found as Place}
 use Rattle.device.specs.Record.{most_words, device_up_to, device_ok}
-use Rattle.table.specs.Table.{table_ok, table_lines, has_id, refused, given, start_of, line_with, found_up_to, found_in, name_ok, name_at}
+use Rattle.table.specs.Table.{table_ok, table_number, table_lines, has_id, found_told, refused, given, start_of, line_with, found_up_to, found_in, name_ok, name_at}
 use Rattle.device.specs.LawsRecord.{rules_up_to, other_limit, more_words}
 use Rattle.device.specs.Memory.{reading_tail}
 use Rattle.table.specs.LawsTable.{found_sound}
-use Rattle.table.specs.LawsName.{found_name, found_within}
-use Rattle.sheet.specs.declared.Line1.{Line1}
-use Rattle.sheet.specs.FirstLine.{id_in, first_line}
+use Rattle.table.specs.LawsName.{found_name}
+use Rattle.sheet.specs.FirstLine.{Line1, id_in, line_ok, first_line, id_told}
 use Rattle.sheet.specs.Sheet.{body_length, sheet_ok, words_in, sheet_number, read_number, read_buffer}
 use Rattle.sheet.specs.LawsFirstLine.{id_stands}
 use Rattle.sheet.specs.LawsSheet.{taken}
 use Rattle.sheetwrite.specs.Write.{sheet_length}
-use Rattle.board.specs.Open.{most_program, record_of, name_of, open_number}
-
--- what the numbers of line 1 and of the search and the found record's program words come to
-unfoldable pub open_by : (line search words : ℕ) → ℕ
-open_by line search words =
-    pick (eqb search 15) 15
-    (unless (eqb line 0) 14
-    (unless (eqb search 0) 16
-    (unless (leb words most_program) 17
-    0)))
+use Rattle.board.specs.Open.{most_program, record_of, name_of, place_of, find_number, open_number}
 
 -- the number of the search by itself
 found_number : (table : List ℕ) (id : ℕ) → (found_in table id).number ≡ pick (table_ok table) (pick (has_id id (table_lines table)) 0 16) 15
@@ -43,36 +38,97 @@ found_number table id = by (table_ok table) (has_id id (table_lines table))
     by true false = unfold pick refused in refl
     by false h = unfold pick refused in refl
 
--- what the code has of the first line and of the search
-module _ (table sheet : List ℕ) (first : Line1) (found : Found) (e : first ≡ first_line sheet) (f : found ≡ found_in table first.id) where
-  same : found ≡ found_in table (first_line sheet).id
-  same = f ∙ ap (λ l. found_in table l.id) e
+-- ---- what the code's parts come to
 
-  number_is : found.number ≡ pick (table_ok table) (pick (has_id (first_line sheet).id (table_lines table)) 0 16) 15
-  number_is = ap (λ x. x.number) same ∙ found_number table (first_line sheet).id
+-- the record by what the search answers
+module _ (table sheet : List ℕ) (id : ℕ) (first : id_told (Ok id) ≡ first_line sheet) (r : Result Place Refusal) (search_is : found_told r ≡ found_in table id) where
+  same : found_told r ≡ found_in table (first_line sheet).id
+  same = search_is ∙ ap (λ l. found_in table l.id) first
 
-  pub opened_device : found.device ≡ record_of table sheet
+  told_number : (a : Result Place Refusal) → number_in a ≡ (found_told a).number
+  unfolding refused
+  told_number (Ok f) = refl
+  told_number (Err e) = refl
+
+  pub find_searched : number_in r ≡ find_number table sheet
+  unfolding find_number pick
+  find_searched =
+      told_number r ∙ (ap (λ x. x.number) same ∙ (found_number table (first_line sheet).id
+      ∙ ap (λ l. pick (table_ok table) (pick (eqb l.number 0) (pick (has_id (first_line sheet).id (table_lines table)) 0 16) 14) 15) first))
+
+  pub place_searched : IfOk r (λ f. f ≡ place_of table sheet)
   unfolding record_of
-  opened_device = ap (λ x. x.device) same
-
-  pub opened_at : found.name_at ≡ (found_in table (first_line sheet).id).name_at
-  opened_at = ap (λ x. x.name_at) same
-
-  pub opened_len : found.name_len ≡ (found_in table (first_line sheet).id).name_len
-  opened_len = ap (λ x. x.name_len) same
-
-  -- the number by what the code's parts answer
-  pub opened_by : open_by first.number found.number found.device.words ≡ open_number table sheet
-  unfolding open_number
-  opened_by =
-      (λ i. open_by (e i).number found.number (opened_device i).words) ∙ by (table_ok table) (has_id (first_line sheet).id (table_lines table)) number_is
+  place_searched = by r same
     where
-      by : (t h : Bool) → found.number ≡ pick t (pick h 0 16) 15
-          → open_by (first_line sheet).number found.number (record_of table sheet).words
-          ≡ pick {A = ℕ} t (pick {A = ℕ} (eqb (first_line sheet).number 0) (pick {A = ℕ} h (pick {A = ℕ} (leb (record_of table sheet).words most_program) 0 17) 16) 14) 15
-      by true true q = ap (λ n. open_by (first_line sheet).number n (record_of table sheet).words) q ∙ (unfold open_by pick in refl)
-      by true false q = ap (λ n. open_by (first_line sheet).number n (record_of table sheet).words) q ∙ (unfold open_by pick in refl)
-      by false h q = ap (λ n. open_by (first_line sheet).number n (record_of table sheet).words) q ∙ (unfold open_by pick in refl)
+      by : (a : Result Place Refusal) → found_told a ≡ found_in table (first_line sheet).id → IfOk a (λ f. f ≡ place_of table sheet)
+      by (Ok f) e = λ i. record { device = (e i).device; name_at = (e i).name_at; name_len = (e i).name_len }
+      by (Err e) p = tt
+
+-- a malformed line 1 after the table
+module _ (table sheet : List ℕ) (e : Refusal) (first : id_told (Err e) ≡ first_line sheet) (t : Result Unit Refusal) (judged : number_in t ≡ table_number table) where
+  line_14 : number_of e ≡ 14
+  unfolding first_line
+  line_14 = by (line_ok sheet) (ap (λ l. l.number) first)
+    where
+      by : (b : Bool) → number_of e ≡ (pick {A = Line1} b (record { number = 0; id = id_in sheet }) (record { number = 14; id = 0 })).number → number_of e ≡ 14
+      by true p = let n : 0 < number_of e = number_of_positive e in absurd (unfold pick in omega (arith, p))
+      by false p = unfold pick in p
+
+  pub find_unread : number_in (result_and {U = Place} t (Err e)) ≡ find_number table sheet
+  unfolding find_number table_number
+  find_unread = by t (table_ok table) judged
+    where
+      others : ℕ
+      others = pick (has_id (first_line sheet).id (table_lines table)) 0 16
+
+      unread : pick (eqb (first_line sheet).number 0) others 14 ≡ 14
+      unread = pick_false _ _ _ (ne_eqb (first_line sheet).number 0 (λ z. let n : number_of e ≡ 0 = ap (λ l. l.number) first ∙ z in omega (arith, line_14)))
+
+      by : (a : Result Unit Refusal) (b : Bool) → number_in a ≡ pick b 0 15 → number_in (result_and {U = Place} a (Err e)) ≡ pick b (pick (eqb (first_line sheet).number 0) others 14) 15
+      by (Ok u) true p = unfold pick in line_14 ∙ sym unread
+      by (Ok u) false p = absurd (unfold pick in omega (arith, p))
+      by (Err f) true p = let n : 0 < number_of f = number_of_positive f in absurd (unfold pick in omega (arith, p))
+      by (Err f) false p = unfold pick in p
+
+-- 17 comes after what finds the record
+open_is : (table sheet : List ℕ) → open_number table sheet ≡ pick (eqb (find_number table sheet) 0) (pick (leb (record_of table sheet).words most_program) 0 17) (find_number table sheet)
+unfolding open_number find_number
+open_is table sheet = by (table_ok table) (eqb (first_line sheet).number 0) (has_id (first_line sheet).id (table_lines table)) (pick (leb (record_of table sheet).words most_program) 0 17)
+  where
+    by : (t f h : Bool) (n : ℕ) → ◌≡◌ {A = ℕ} (pick t (pick f (pick h n 16) 14) 15) (pick (eqb (pick t (pick f (pick h 0 16) 14) 15) 0) n (pick t (pick f (pick h 0 16) 14) 15))
+    by true true true n = unfold pick in refl
+    by true true false n = unfold pick in refl
+    by true false h n = unfold pick in refl
+    by false f h n = unfold pick in refl
+
+-- a record that the programs serve was found
+pub open_finds : (table sheet : List ℕ) → open_number table sheet ≡ 0 → find_number table sheet ≡ 0
+open_finds table sheet z = by_eq (find_number table sheet) 0 (λ e. e) (λ n. sym (open_is table sheet ∙ pick_false _ _ _ (ne_eqb (find_number table sheet) 0 n)) ∙ z)
+
+module _ (table sheet : List ℕ) where
+  pub open_unfound : (e : Refusal) → number_of e ≡ find_number table sheet → number_of e ≡ open_number table sheet
+  open_unfound e p =
+      let n : 0 < number_of e = number_of_positive e in
+      p ∙ sym (open_is table sheet ∙ pick_false _ _ _ (ne_eqb (find_number table sheet) 0 (λ z. omega (arith, p))))
+
+  module _ (found : 0 ≡ find_number table sheet) (f : Place) (is : f ≡ place_of table sheet) where
+    sizes : open_number table sheet ≡ pick (leb f.device.words most_program) 0 17
+    sizes =
+        open_is table sheet ∙ (pick_true _ _ _ (eq-eqb (find_number table sheet) 0 (sym found))
+        ∙ ap (λ x. pick (leb x.device.words most_program) 0 17) (sym is))
+
+    pub open_large : most_program < f.device.words → 17 ≡ open_number table sheet
+    open_large h = sym (sizes ∙ pick_false _ _ _ (lt-leb f.device.words most_program h))
+
+    pub open_found : f.device.words ≤ most_program → 0 ≡ open_number table sheet
+    open_found h = sym (sizes ∙ pick_true _ _ _ (le-leb f.device.words most_program h))
+
+-- two answers of one number and one record are equal
+pub answer_fixed : {T : Type 0} (v : T) (a b : Result T Refusal) → number_in a ≡ number_in b → IfOk a (λ x. x ≡ v) → IfOk b (λ x. x ≡ v) → a ≡ b
+answer_fixed v (Ok x) (Ok y) n p q = ap Ok (p ∙ sym q)
+answer_fixed v (Ok x) (Err e) n p q = let z : 0 < number_of e = number_of_positive e in absurd (omega (arith, n))
+answer_fixed v (Err e) (Ok y) n p q = let z : 0 < number_of e = number_of_positive e in absurd (omega (arith, n))
+answer_fixed v (Err e) (Err f) n p q = ap Err (number_of_unique e f n)
 
 -- ---- a device that the programs serve
 
@@ -127,14 +183,10 @@ opened_sound table sheet z = (opens table sheet z).sound
 pub opened_named : (table sheet : List ℕ) → open_number table sheet ≡ 0 → name_ok (name_of table sheet) ≡ true
 opened_named table sheet z = (opens table sheet z).named
 
--- the name, as the code cuts it out of the table
-module _ (table sheet : List ℕ) (at len : ℕ) (e : at ≡ (found_in table (first_line sheet).id).name_at) (f : len ≡ (found_in table (first_line sheet).id).name_len) where
-  pub name_cut : take (at + len - at) (drop at table) ≡ name_of table sheet
-  unfolding name_of name_at
-  name_cut = let n : at + len - at ≡ len = omega arith in ap (λ k. take k (drop at table)) n ∙ (λ i. take (f i) (drop (e i) table))
-
-  pub name_inside : at + len ≤ length table
-  name_inside = rw (e, f) (found_within table (first_line sheet).id)
+-- the name of what is answered
+pub name_is : (table sheet : List ℕ) (f : Place) → f ≡ place_of table sheet → take f.name_len (drop f.name_at table) ≡ name_of table sheet
+unfolding name_of name_at
+name_is table sheet f is = λ i. take (is i).name_len (drop (is i).name_at table)
 
 -- so it is one that the programs serve
 pub opened_served : (table sheet : List ℕ) → open_number table sheet ≡ 0 → device_up_to most_program (record_of table sheet) ≡ true

@@ -3,6 +3,7 @@ use Rattle.std.specs.Prelude.{ℕ, List, leb, eqb}
 use Rattle.std.proofs.lemmas.List.Edits.{sets}
 use Rattle.words.specs.Choice.{pick, unless}
 use Rattle.device.specs.declared.Device.{Device}
+use Rattle.table.specs.declared.Found.{Found as Place}
 use Rattle.table.specs.Table.{table_ok, table_lines, has_id, found_in, name_at}
 use Rattle.sheet.specs.FirstLine.{first_line}
 use Rattle.sheet.specs.Sheet.{sheet_number, words_in}
@@ -18,6 +19,23 @@ record_of table sheet = (found_in table (first_line sheet).id).device
 -- its name, as it stands in the table
 unfoldable pub name_of : (table sheet : List ℕ) → List ℕ
 name_of table sheet = name_at table (found_in table (first_line sheet).id)
+
+-- the record and the place of its name in the table, as they are answered
+abbrev pub place_of : (table sheet : List ℕ) → Place
+place_of table sheet =
+    record {
+      device = record_of table sheet;
+      name_at = (found_in table (first_line sheet).id).name_at;
+      name_len = (found_in table (first_line sheet).id).name_len;
+    }
+
+-- 15, 14 for the first line, 16
+unfoldable pub find_number : (table sheet : List ℕ) → ℕ
+find_number table sheet =
+    unless (table_ok table) 15
+    (unless (eqb (first_line sheet).number 0) 14
+    (unless (has_id (first_line sheet).id (table_lines table)) 16
+    0))
 
 -- 15, 14 for the first line, 16, 17
 unfoldable pub open_number : (table sheet : List ℕ) → ℕ
