@@ -176,6 +176,16 @@ plan_rows d image reading erases n k at =
     rows_from (chip_of d) (λ j. erases && row_rises (chip_of d) (wanted d image reading) (known reading) j) (wanted d image reading)
     (row_differs (chip_of d) (wanted d image reading) (known reading)) n k at
 
+-- whether word k of configuration space is written, the words that are, n of them from word k on, and what stands around them
+abbrev pub plan_written : Device → (image reading : List ℕ) → (all_ids : Bool) → (k : ℕ) → Bool
+plan_written d image reading all_ids = config_writes (chip_of d) (wanted d image reading) (known reading) all_ids
+
+abbrev pub plan_writes : Device → (image reading : List ℕ) → (all_ids : Bool) → (n k at : ℕ) → List Order
+plan_writes d image reading all_ids n k at = writes_from (λ j. wanted d image reading (d.words + j)) (plan_written d image reading all_ids) n k at
+
+abbrev pub plan_config : Device → (image reading : List ℕ) → (erase_ids all_ids : Bool) → List Order
+plan_config d image reading erase_ids all_ids = config_steps (chip_of d) erase_ids (wanted d image reading) (plan_written d image reading all_ids)
+
 -- what both planners write after their first steps
 abbrev pub plan_body : Device → (image reading : List ℕ) → (erases erase_ids all_ids : Bool) → List Order
 plan_body d image reading erases erase_ids all_ids =

@@ -1,5 +1,6 @@
 -- What a writer of steps leaves in a lent buffer, and what is still to be written while it is at work.
-use Rattle.std.specs.Prelude.{ℕ, suc, ◌+◌, ◌*◌, ◌/◌, ◌%◌, ◌≤◌, ◌≡◌, refl, List, [], ◌∷◌, ◌++◌, set}
+use Rattle.std.specs.Prelude.{ℕ, suc, ◌+◌, ◌*◌, ◌/◌, ◌%◌, ◌≤◌, ◌<◌, ◌≡◌, refl, List, [], ◌∷◌, ◌++◌, set, get_or}
+use Rattle.std.specs.Int.{w16, to_le_bytes}
 use Rattle.std.proofs.Common.{add-one, sym, ap, subst, ◌∙◌, length-append}
 use native.Mathlib.Omega.{arith}
 use Rattle.std.proofs.Math.ListN.{length}
@@ -47,13 +48,16 @@ pub room_whole : (steps : List Order) (w : Writer) (need : ℕ) → w.steps ≡ 
 room_whole steps w need z e f h = record { few = omega arith; fits = omega arith }
 
 -- one step's three bytes
-pub bytes_one : (o : Order) (s : ℕ) (out : List ℕ) (code payload : ℕ) → code ≡ code_of o → payload ≡ payload_of o
-    → set (set (set out (3 * s) code) (3 * s + 1) (payload % 256)) (3 * s + 2) (payload / 256) ≡ sets out (3 * s) (bytes_of (o ∷ []))
+pub bytes_one : (o : Order) (s : ℕ) (out : List ℕ) (code payload : ℕ) (low_high : List ℕ) → code ≡ code_of o → payload ≡ payload_of o → payload < 0x10000 → low_high ≡ to_le_bytes w16 payload
+    → set (set (set out (3 * s) code) (3 * s + 1) (get_or low_high 0 0)) (3 * s + 2) (get_or low_high 1 0) ≡ sets out (3 * s) (bytes_of (o ∷ []))
 unfolding bytes_of step_bytes
-bytes_one o s out code payload c p = rw (c, p, add-one, two_more)
+bytes_one o s out code payload low_high c p h e = rw (e, c, two_more, add-one, high, p)
   where
     two_more : 3 * s + 2 ≡ suc (suc (3 * s))
     two_more = omega arith
+
+    high : payload / 256 % 256 ≡ payload / 256
+    high = omega arith
 
 -- ---- a writer at work: `all` is what it was to write at the start, and `x ++ y` what is left
 

@@ -1,8 +1,7 @@
 // Words of configuration space put into a stream: user IDs, all or those that differ, and the configuration words that differ.
-ghost use Rattle.std.specs.Prelude.{◌+◌, ◌<◌};
-ghost use Rattle.target.specs.Chip.{chip_of};
-ghost use Rattle.aim.specs.Wanted.{known, wanted, config_writes};
-ghost use Rattle.plan.specs.Steps.{word_steps, writes_from, config_steps};
+ghost use Rattle.std.specs.Prelude.{◌<◌};
+ghost use Rattle.plan.specs.Steps.{word_steps};
+ghost use Rattle.plan.specs.LawsPlanSteps.{plan_writes, plan_config};
 ghost use Rattle.plan.specs.LawsPlanWrote.{Wrote, Room};
 
 use crate::orders::Writer;
@@ -26,8 +25,8 @@ impl Writer<'_> {
 impl Task<'_> {
     // The words that are written, ascending; the counter is carried along.
     fn put_writes(&self, w: &mut Writer)
-        requires { Room (writes_from (λ k. wanted self.now.aim.device self.now.aim.image.now self.now.aim.reading.now (self.now.aim.device.words + k)) (config_writes (chip_of self.now.aim.device) (wanted self.now.aim.device self.now.aim.image.now self.now.aim.reading.now) (known self.now.aim.reading.now) self.now.all_ids) 9 0 0) w.old }
-        ensures { Wrote (writes_from (λ k. wanted self.now.aim.device self.now.aim.image.now self.now.aim.reading.now (self.now.aim.device.words + k)) (config_writes (chip_of self.now.aim.device) (wanted self.now.aim.device self.now.aim.image.now self.now.aim.reading.now) (known self.now.aim.reading.now) self.now.all_ids) 9 0 0) w.old w.new }
+        requires { Room (plan_writes self.now.aim.device self.now.aim.image.now self.now.aim.reading.now self.now.all_ids 9 0 0) w.old }
+        ensures { Wrote (plan_writes self.now.aim.device self.now.aim.image.now self.now.aim.reading.now self.now.all_ids 9 0 0) w.old w.new }
     {
         let mut at = 0;
         for k in 0..9 {
@@ -41,8 +40,8 @@ impl Task<'_> {
 
     // If any word is written: Load Configuration, Row Erase of the user IDs if asked for, and each word.
     pub(crate) fn put_config(&self, w: &mut Writer)
-        requires { Room (config_steps (chip_of self.now.aim.device) self.now.erase_ids (wanted self.now.aim.device self.now.aim.image.now self.now.aim.reading.now) (config_writes (chip_of self.now.aim.device) (wanted self.now.aim.device self.now.aim.image.now self.now.aim.reading.now) (known self.now.aim.reading.now) self.now.all_ids)) w.old }
-        ensures { Wrote (config_steps (chip_of self.now.aim.device) self.now.erase_ids (wanted self.now.aim.device self.now.aim.image.now self.now.aim.reading.now) (config_writes (chip_of self.now.aim.device) (wanted self.now.aim.device self.now.aim.image.now self.now.aim.reading.now) (known self.now.aim.reading.now) self.now.all_ids)) w.old w.new }
+        requires { Room (plan_config self.now.aim.device self.now.aim.image.now self.now.aim.reading.now self.now.erase_ids self.now.all_ids) w.old }
+        ensures { Wrote (plan_config self.now.aim.device self.now.aim.image.now self.now.aim.reading.now self.now.erase_ids self.now.all_ids) w.old w.new }
     {
         if self.some_written() {
             w.put(Order::LoadConfiguration(ERASED));

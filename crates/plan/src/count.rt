@@ -1,9 +1,7 @@
 // How many steps a stream has, by arithmetic: so a buffer that is too short is known before the first byte, and no store tests for room.
-ghost use Rattle.std.specs.Prelude.{◌+◌, ◌/◌};
-ghost use Rattle.target.specs.Chip.{chip_of};
-ghost use Rattle.aim.specs.Wanted.{known, wanted, config_writes};
-ghost use Rattle.plan.specs.Steps.{erasing, writes_from, config_steps};
-ghost use Rattle.plan.specs.LawsPlanSteps.{plan_rows, plan_body};
+ghost use Rattle.std.specs.Prelude.{◌/◌};
+ghost use Rattle.plan.specs.Steps.{erasing};
+ghost use Rattle.plan.specs.LawsPlanSteps.{plan_rows, plan_writes, plan_config, plan_body};
 ghost use Rattle.plan.specs.LawsPlanCount.{Counts, rows_most, writes_most, config_most, body_most};
 
 use crate::task::Task;
@@ -44,7 +42,7 @@ impl Task<'_> {
 
     // Configuration space: nothing, or Load Configuration, the erase and the words.
     fn config_length(&self) -> usize
-        ensures { Counts config_most (config_steps (chip_of self.now.aim.device) self.now.erase_ids (wanted self.now.aim.device self.now.aim.image.now self.now.aim.reading.now) (config_writes (chip_of self.now.aim.device) (wanted self.now.aim.device self.now.aim.image.now self.now.aim.reading.now) (known self.now.aim.reading.now) self.now.all_ids)) result }
+        ensures { Counts config_most (plan_config self.now.aim.device self.now.aim.image.now self.now.aim.reading.now self.now.erase_ids self.now.all_ids) result }
     {
         if !self.some_written() {
             return 0;
@@ -54,7 +52,7 @@ impl Task<'_> {
 
     // The words that are written: the way to each, its load, and Begin.
     fn writes_length(&self) -> usize
-        ensures { Counts writes_most (writes_from (λ k. wanted self.now.aim.device self.now.aim.image.now self.now.aim.reading.now (self.now.aim.device.words + k)) (config_writes (chip_of self.now.aim.device) (wanted self.now.aim.device self.now.aim.image.now self.now.aim.reading.now) (known self.now.aim.reading.now) self.now.all_ids) 9 0 0) result }
+        ensures { Counts writes_most (plan_writes self.now.aim.device self.now.aim.image.now self.now.aim.reading.now self.now.all_ids 9 0 0) result }
     {
         let mut steps = 0;
         let mut at = 0;

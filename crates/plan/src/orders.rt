@@ -51,10 +51,10 @@ impl Writer<'_> {
         ensures { Wrote (o ∷ []) self.old self.new }
     {
         let at = 3 * self.steps;
-        let payload = payload_of(o);
+        let payload = payload_of(o).to_le_bytes();
         self.out[at] = code_of(o);
-        self.out[at + 1] = (payload % 256) as u8;
-        self.out[at + 2] = (payload / 256) as u8;
+        self.out[at + 1] = payload[0];
+        self.out[at + 2] = payload[1];
         self.steps += 1;
     }
 

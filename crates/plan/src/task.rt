@@ -2,7 +2,8 @@
 ghost use Rattle.std.specs.Prelude.{◌≡◌, ◌&&◌};
 ghost use Rattle.device.specs.LawsRecord.{Rules};
 ghost use Rattle.target.specs.Chip.{chip_of};
-ghost use Rattle.aim.specs.Wanted.{known, wanted, some, row_rises, config_writes};
+ghost use Rattle.aim.specs.Wanted.{known, wanted, some, row_rises};
+ghost use Rattle.plan.specs.LawsPlanSteps.{plan_written};
 ghost use Rattle.plan.specs.LawsPlanSource.{Source};
 
 use aim::Aim;
@@ -29,7 +30,7 @@ impl Task<'_> {
 
     // Whether any word of configuration space is written.
     pub(crate) fn some_written(&self) -> bool
-        ensures { result ≡ some 9 (config_writes (chip_of self.now.aim.device) (wanted self.now.aim.device self.now.aim.image.now self.now.aim.reading.now) (known self.now.aim.reading.now) self.now.all_ids) }
+        ensures { result ≡ some 9 (plan_written self.now.aim.device self.now.aim.image.now self.now.aim.reading.now self.now.all_ids) }
     {
         (0..9).any(|k| self.aim.is_written(k, self.all_ids))
     }

@@ -1,5 +1,4 @@
 -- The words from here on are left to be written.
-use native.Mathlib.Omega.{arith}
 use mathlib.Core.Path.{sym, ◌∙◌}
 use Rattle.plan.specs.LawsPlanSteps.{writes_yes, writes_no, writes_none, word_same}
 use Rattle.plan.specs.LawsPlanWrote.{left_all, left_same, left_next, left_none, room_next, room_same, wrote_same}
@@ -18,10 +17,10 @@ word-requires c = record {
 
 pub loop-k-preserved : goal.loop-k-preserved
 loop-k-preserved c = elim c.if-is_written.branch [
-      then-is_written w ↦ rw (w.w-is, w.at-is)
+  | then-is_written w ↦ rw (w.w-is, w.at-is)
       (left_next _ (left_same (writes_yes _ _ _ _ _ c.loop-k-test.true (sym c.is_written.ensures ∙ w.if-is_written.true)) c.loop-k.invariant)
       (wrote_same (word_same _ _ _ _ w.wanted-word.ensures) w.word.ensures))
-    | else-is_written w ↦ rw (w.w-is, w.at-is)
+  | else-is_written w ↦ rw (w.w-is, w.at-is)
       (left_same (writes_no _ _ _ _ _ c.loop-k-test.true (sym c.is_written.ensures ∙ w.if-is_written.false)) c.loop-k.invariant)
 ]
 

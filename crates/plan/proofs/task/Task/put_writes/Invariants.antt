@@ -1,14 +1,10 @@
 -- The words from here on are left to be written.
-use Prim.Native.Nat.{ℕ, ◌+◌, ◌-◌}
-use Rattle.target.specs.Chip.{chip_of}
-use Rattle.aim.specs.Wanted.{known, wanted, config_writes}
-use Rattle.plan.specs.Steps.{writes_from}
+use Prim.Native.Nat.{◌-◌}
+use Rattle.plan.specs.LawsPlanSteps.{plan_writes}
 use Rattle.plan.specs.LawsPlanWrote.{Left}
 use Rattle.plan.proofs.task.Task.put_writes.Given as goal
 
 abbrev pub invariant-loop-k : goal.invariant-loop-k
 invariant-loop-k l =
-    let a = l.self.aim in
-    let word : ℕ → ℕ = λ j. wanted a.device a.image.now a.reading.now (a.device.words + j) in
-    let writes = config_writes (chip_of a.device) (wanted a.device a.image.now a.reading.now) (known a.reading.now) l.self.all_ids in
-    Left (writes_from word writes 9 0 0) l.initial.w (writes_from word writes (9 - l.k) l.k l.at) l.w
+    let left = plan_writes l.self.aim.device l.self.aim.image.now l.self.aim.reading.now l.self.all_ids in
+    Left (left 9 0 0) l.initial.w (left (9 - l.k) l.k l.at) l.w

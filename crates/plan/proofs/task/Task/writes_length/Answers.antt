@@ -12,12 +12,12 @@ loop-k-init c = record { behind = omega arith; counted = counting_all _ _ (write
 
 pub loop-k-preserved : goal.loop-k-preserved
 loop-k-preserved c = elim c.if-is_written.branch [
-      then-is_written w ↦ record {
+  | then-is_written w ↦ record {
     behind = omega arith;
     counted = rw (w.steps-is, w.at-is)
         (word_counted _ _ _ _ _ _ _ _ c.loop-k-test.true (sym c.is_written.ensures ∙ w.if-is_written.true) c.loop-k.invariant.counted);
   }
-    | else-is_written w ↦ record {
+  | else-is_written w ↦ record {
     behind = omega arith;
     counted = rw (w.steps-is, w.at-is)
         (counting_same _ _ _ _ _ (writes_no _ _ _ _ _ c.loop-k-test.true (sym c.is_written.ensures ∙ w.if-is_written.false)) c.loop-k.invariant.counted);
