@@ -59,6 +59,13 @@ bytes_one o s out code payload low_high c p h e = rw (e, c, two_more, add-one, h
     high : payload / 256 % 256 ≡ payload / 256
     high = omega arith
 
+-- a writer whose buffer and count are in hand
+abbrev pub in_hand : Writer → List ℕ → ℕ → Writer
+in_hand w out steps = record w { out = record w.out { now = out }; steps = steps }
+
+pub wrote_in_hand : {o : Order} (w : Writer) {out out' : List ℕ} {s s' : ℕ} → out' ≡ sets out (3 * s) (bytes_of (o ∷ [])) → s' ≡ s + 1 → Wrote (o ∷ []) (in_hand w out s) (in_hand w out' s')
+wrote_in_hand w b c = record { bytes = b; count = c; same_buffer = refl }
+
 -- ---- a writer at work: `all` is what it was to write at the start, and `x ++ y` what is left
 
 module _ {all : List Order} {start : Writer} where

@@ -1,9 +1,10 @@
 // Steps put into a stream. Whoever writes has counted the steps and knows that they fit, so that no store tests for room.
-ghost use Rattle.std.specs.Prelude.{◌≡◌, [], ◌∷◌, ◌<◌};
-ghost use Rattle.target.specs.Stream.{code_of, payload_of};
+ghost use Rattle.std.specs.Prelude.{◌≡◌, [], ◌∷◌, ◌+◌, ◌*◌, ◌<◌, length};
+ghost use Rattle.std.proofs.lemmas.List.Edits.{sets};
+ghost use Rattle.target.specs.Stream.{code_of, payload_of, bytes_of};
 ghost use Rattle.target.specs.LawsStream.{FitsOrder};
 ghost use Rattle.plan.specs.Steps.{walk, erasing, reads};
-ghost use Rattle.plan.specs.LawsPlanWrote.{Wrote, Room};
+ghost use Rattle.plan.specs.LawsPlanWrote.{Wrote, Room, ample};
 
 use target::Order;
 
@@ -36,6 +37,22 @@ fn payload_of(o: Order) -> u16
     }
 }
 
+// One step put into a stream that has so many before it: code, payload low, payload high. It answers how many there are then.
+pub(crate) fn put_order(out: &mut [u8], steps: usize, o: Order) -> usize
+    requires fits_order { FitsOrder o }
+    requires few { steps < ample }
+    requires room { 3 * steps + 2 < length out.old }
+    ensures bytes { out.new ≡ sets out.old (3 * steps) (bytes_of (o ∷ [])) }
+    ensures count { result ≡ steps + 1 }
+{
+    let at = 3 * steps;
+    let payload = payload_of(o).to_le_bytes();
+    out[at] = code_of(o);
+    out[at + 1] = payload[0];
+    out[at + 2] = payload[1];
+    steps + 1
+}
+
 // A stream that is being written into a lent buffer, and how many steps of it stand there.
 #[derive(Drop)]
 pub(crate) struct Writer<'a> {
@@ -44,18 +61,13 @@ pub(crate) struct Writer<'a> {
 }
 
 impl Writer<'_> {
-    // One step: code, payload low, payload high.
+    // One step.
     pub(crate) fn put(&mut self, o: Order)
         requires fits_order { FitsOrder o }
         requires room { Room (o ∷ []) self.old }
         ensures { Wrote (o ∷ []) self.old self.new }
     {
-        let at = 3 * self.steps;
-        let payload = payload_of(o).to_le_bytes();
-        self.out[at] = code_of(o);
-        self.out[at + 1] = payload[0];
-        self.out[at + 2] = payload[1];
-        self.steps += 1;
+        self.steps = put_order(self.out, self.steps, o);
     }
 
     // Increments from one place up to another.
