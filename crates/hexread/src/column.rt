@@ -38,7 +38,7 @@ fn bad_column(line: &[u8]) -> u32
     (line.len() + 1) as u32
 }
 
-// The first byte after the colon; 256 where two digits do not stand there.
+// The first byte after the colon; 256 where two digits do not stand there, (a) as the definition of count_of has it.
 fn count_of(line: &[u8]) -> usize
     ensures count { result ≡ count_of line.now }
     ensures most { result ≤ 256 }

@@ -29,7 +29,7 @@ impl Digits {
         Some(16 * high + low)
     }
 
-    // The value of a character, 16 where it is no digit: (b) an Option for each costs a test for each.
+    // The value of a character; 16 where it is no digit, (a) as the table that numerals::hex::digits gives has it.
     fn value(&self, c: u8) -> u8
         ensures { result ≡ digit_of c }
     {

@@ -11,42 +11,59 @@ use device::READING_TAIL;
 use refusal::Refusal;
 use words::{ByteAddress, CONFIG_BASE, NOT_GIVEN, WORD_LIMIT, WordAddress};
 
+// Where the words of a data record go: for a device of so many program words, under the upper half that holds, from the record's offset on.
+#[derive(Clone, Copy)]
+pub(crate) struct Places {
+    pub words: u16,
+    pub upper: u32,
+    pub offset: u32,
+}
+
+impl Places {
+    // The entry of word j, if a word can be given to it.
+    fn programmable_entry(self, j: u8) -> Option<usize>
+        ensures { result ≡ entry_given self.words self.upper self.offset j }
+    {
+        let entry = self.entry(j);
+        if device::programmable(self.words, entry) {
+            Some(entry)
+        } else {
+            None
+        }
+    }
+
+    // The entry of word j; one past the last entry where there is no word.
+    fn entry(self, j: u8) -> usize
+        ensures { result ≡ entry_by self.words self.upper self.offset j }
+    {
+        entry_at(self.words, words::address::halve(self.byte_address(j)))
+    }
+
+    // The address of the first byte of word j, where nothing wraps at 64 KiB.
+    fn byte_address(self, j: u8) -> ByteAddress
+        ensures { result ≡ record { 0 = self.upper * 65536 + self.offset + 2 * j } }
+    {
+        ByteAddress(u64::from(self.upper) * 65536 + u64::from(self.offset) + 2 * u64::from(j))
+    }
+}
+
 // Gives the words of a data record, whatever line its bytes are those of.
 // Where all of them lie in program space, the entries follow one another as the words do.
 pub(crate) fn give_record(
-    words: u16,
-    upper: u32,
+    places: Places,
     count: u8,
-    offset: u32,
     bytes: &Bytes,
     image: &mut [u16],
 ) -> Result<(), RefusedWord>
-    requires { length image.old ≡ words + reading_tail }
-    ensures { GivesRecord words upper count offset bytes.now image.old image.new result }
+    requires { length image.old ≡ places.words + reading_tail }
+    ensures { GivesRecord places.words places.upper count places.offset bytes.now image.old image.new result }
 {
     let n = count / 2;
-    let first = entry_of(words, upper, offset, 0);
-    if first + usize::from(n) <= usize::from(words) {
+    let first = places.entry(0);
+    if first + usize::from(n) <= usize::from(places.words) {
         return give(n, bytes, image, |j| Some(first + usize::from(j)));
     }
-    give(
-        n,
-        bytes,
-        image,
-        |j| programmable_entry(words, upper, offset, j),
-    )
-}
-
-// The entry of word j of a record, if a word can be given to it.
-fn programmable_entry(words: u16, upper: u32, offset: u32, j: u8) -> Option<usize>
-    ensures { result ≡ entry_given words upper offset j }
-{
-    let entry = entry_of(words, upper, offset, j);
-    if device::programmable(words, entry) {
-        Some(entry)
-    } else {
-        None
-    }
+    give(n, bytes, image, |j| places.programmable_entry(j))
 }
 
 // Gives n words to the entries that a function tells, until one is refused, as one is that has no entry.
@@ -84,20 +101,6 @@ fn give<F: Fn(u8) -> Option<usize>>(
         image[i] = word;
     }
     Ok(())
-}
-
-// The entry of word j of a record; one past the last entry where there is no word.
-fn entry_of(words: u16, upper: u32, offset: u32, j: u8) -> usize
-    ensures { result ≡ entry_by words upper offset j }
-{
-    entry_at(words, words::address::halve(byte_address(upper, offset, j)))
-}
-
-// The address of the first byte of word j, where nothing wraps at 64 KiB.
-fn byte_address(upper: u32, offset: u32, j: u8) -> ByteAddress
-    ensures { result ≡ record { 0 = upper * 65536 + offset + 2 * j } }
-{
-    ByteAddress(u64::from(upper) * 65536 + u64::from(offset) + 2 * u64::from(j))
 }
 
 // The entry of an address; one past the last entry where there is no word.

@@ -8,7 +8,7 @@ ghost use Rattle.hexread.specs.LawsTaken.{RecordTaken, LineTaken};
 
 use crate::digits::Digits;
 use crate::fault::Fault;
-use crate::give::give_record;
+use crate::give::{Places, give_record};
 use crate::line::{Bytes, Record};
 use refusal::Refusal;
 
@@ -66,14 +66,14 @@ impl Reader {
             → RecordTaken self.old.words line self.old.upper image.old (reading self.new.ended self.new.upper image.new (number_in_line result)) result }
     {
         match sound {
-            Record::Data { count, offset } => give_record(
-                self.words,
-                self.upper,
-                count,
-                offset,
-                &self.bytes,
-                image,
-            )?,
+            Record::Data { count, offset } => {
+                let places = Places {
+                    words: self.words,
+                    upper: self.upper,
+                    offset,
+                };
+                give_record(places, count, &self.bytes, image)?;
+            }
             Record::End => self.ended = true,
             Record::Upper(half) => self.upper = half,
         }

@@ -8,20 +8,20 @@ use Rattle.hexread.specs.LawsGiveProgram.{first_most, program_answers}
 use Rattle.hexread.proofs.give.give_record.Goals as goal
 
 pub overflow_add-first : goal.overflow_add-first
-overflow_add-first c = let f = first_most c.args.words c.args.upper c.args.offset in omega (arith, f)
+overflow_add-first c = let f = first_most c.args.places.words c.args.places.upper c.args.places.offset in omega (arith, f)
 
 pub returns-then-first-from : goal.returns-then-first-from
-returns-then-first-from c = λ line s k o. c.give.ensures c.args.words c.args.upper line s (ap (λ n. n / 2) k) (λ j a h p.
-    let q : a ≡ Some (c.entry_of-first.result + j) = search rules in
-    q ∙ program_answers _ _ _ _ (c.args.count / 2) c.entry_of-first.ensures (omega arith) (omega arith) line o j h)
-    ∙ ap (λ n. gave c.args.words c.args.upper line c.args.image.now 0 (n / 2)) k
+returns-then-first-from c = λ line s k o. c.give.ensures c.args.places.words c.args.places.upper line s (ap (λ n. n / 2) k) (λ j a h p.
+    let q : a ≡ Some (c.entry-first.result + j) = search rules in
+    q ∙ program_answers _ _ _ _ (c.args.count / 2) c.entry-first.ensures (omega arith) (omega arith) line o j h)
+    ∙ ap (λ n. gave c.args.places.words c.args.places.upper line c.args.image.now 0 (n / 2)) k
 
 pub give-requires-2-clause-inside : goal.give-requires-2-clause-inside
-give-requires-2-clause-inside c = λ j i h p. let q : Some i ≡ entry_given c.args.words c.args.upper c.args.offset j = search rules in
+give-requires-2-clause-inside c = λ j i h p. let q : Some i ≡ entry_given c.args.places.words c.args.places.upper c.args.places.offset j = search rules in
     given_inside _ _ _ _ _ _ c.requires q
 
 pub returns : goal.returns
-returns c = λ line s k o. c.give-2.ensures c.args.words c.args.upper line s (ap (λ n. n / 2) k) (λ j a h p.
-    let q : a ≡ entry_given c.args.words c.args.upper c.args.offset j = search rules in
+returns c = λ line s k o. c.give-2.ensures c.args.places.words c.args.places.upper line s (ap (λ n. n / 2) k) (λ j a h p.
+    let q : a ≡ entry_given c.args.places.words c.args.places.upper c.args.places.offset j = search rules in
     q ∙ given_read _ _ _ _ j o)
-    ∙ ap (λ n. gave c.args.words c.args.upper line c.args.image.now 0 (n / 2)) k
+    ∙ ap (λ n. gave c.args.places.words c.args.places.upper line c.args.image.now 0 (n / 2)) k
