@@ -1,6 +1,6 @@
 -- Laws of the sheet that a stream is to leave: what is filled in word by word is a reading, and the sheet of it is what is to be printed.
-use Rattle.std.specs.Prelude.{ℕ, ◌+◌, ◌≤◌, ◌<◌, ◌≡◌, Bool, eqb, length, get_or, set, take}
-use Rattle.std.proofs.Common.{zero-add, arith, ◌∙◌, length-append, take_at, length-take-le, eq-eqb, ne_eqb}
+use Rattle.std.specs.Prelude.{ℕ, ◌+◌, ◌≤◌, ◌<◌, ◌≡◌, Bool, length, get_or, set, take}
+use Rattle.std.proofs.Common.{zero-add, arith, ◌∙◌, length-append, take_at, length-take-le}
 use Rattle.std.proofs.Math.Path.{sym, ap}
 use Rattle.std.proofs.Math.Bool.{true, false}
 use mathlib.Core.List.{List, [], ◌++◌}
@@ -19,8 +19,10 @@ use Rattle.aim.specs.Refusal.{update_number, fresh_number}
 use Rattle.plan.specs.Demands.{programmed}
 use Rattle.aim.specs.LawsAccepted.{accepted, accepted_fresh}
 use Rattle.plan.specs.LawsPlanSource.{update_source, fresh_source}
-use Rattle.print.specs.Print.{refused_text}
-use Rattle.listings.specs.Wanteds.{left_text}
+use Rattle.device.specs.Record.{device_up_to}
+use Rattle.board.specs.Open.{most_program}
+use Rattle.board.specs.Sheet.{printed_sheet}
+use Rattle.board.specs.LawsWritten.{sheet_whole}
 use Rattle.listings.specs.LawsPlans.{plan_number, known_to}
 
 -- ---- one word
@@ -95,14 +97,9 @@ module _ (fresh : Bool) (d : Device) (image reading : List ℕ) (ok : reading_ok
     front : take (d.words + reading_tail) (words ++ rest) ≡ words
     front = take_at words rest (d.words + reading_tail) (ap length same ∙ aim_long)
 
-    pub left_sound : reading_ok d.words (take (d.words + reading_tail) (words ++ rest)) ≡ true
+    left_sound : reading_ok d.words (take (d.words + reading_tail) (words ++ rest)) ≡ true
     left_sound = ap (reading_ok d.words) (front ∙ same) ∙ aim_sound
 
-    pub left_found : (number id : ℕ) → number ≡ 0
-        → sheet_with id d (take (d.words + reading_tail) (words ++ rest)) ≡ left_text number id d (programmed d image (known_to fresh reading) reading)
-    unfolding left_text
-    left_found number id y = ap (sheet_with id d) (front ∙ e) ∙ sym (pick_true (eqb number 0) _ _ (eq-eqb number 0 y))
-
-pub left_refused : (number id : ℕ) (d : Device) (reading : List ℕ) → (number ≡ 0 → ⊥) → refused_text number 0 0 ≡ left_text number id d reading
-unfolding left_text
-left_refused number id d reading n = sym (pick_false (eqb number 0) _ _ (ne_eqb number 0 n))
+    pub left_sheet : device_up_to most_program d ≡ true → (id : ℕ) → id < 0x4000
+        → printed_sheet d id (take (d.words + reading_tail) (words ++ rest)) ≡ sheet_with id d (programmed d image (known_to fresh reading) reading)
+    left_sheet served id small = sheet_whole d id _ served left_sound small ∙ ap (sheet_with id d) (front ∙ e)

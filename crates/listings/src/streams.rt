@@ -1,32 +1,19 @@
 // A stream printed, a line a step: code, tab, payload.
-ghost use Rattle.std.specs.Prelude.{◌*◌, ◌≤◌, length, take};
+ghost use Rattle.std.specs.Prelude.{◌≤◌, length};
 ghost use Rattle.print.specs.Print.{Prints};
 ghost use Rattle.print.specs.LawsPrint.{Wrote};
-ghost use Rattle.listings.specs.Streams.{stream_text, plan_text};
+ghost use Rattle.listings.specs.Streams.{stream_text};
 ghost use Rattle.listings.specs.LawsStreams.{most_stream, step_text};
-
-use plan::Planned;
 
 // The most bytes of a stream: three for each of 2P + 2P/R + 22 steps, where P is the most that the programs serve.
 pub(crate) const MOST_STREAM: usize = 55362;
 
-const TAB: u8 = 9;
+const TAB: u8 = b'\t';
 
-const LF: u8 = 10;
-
-// What a planner answered: its refusal, or the stream that it left in the buffer.
-pub(crate) fn put_plan(out: &mut [u8], planned: Planned, stream: &[u8]) -> usize
-    requires { (3 * planned.steps ≤ length stream.now) × (length stream.now ≤ most_stream) }
-    ensures { Prints (plan_text planned.number (take (3 * planned.steps) stream.now)) out.old result out.new }
-{
-    if planned.number != 0 {
-        return print::refusal(out, planned.number, 0, 0);
-    }
-    put_stream(out, &stream[..3 * planned.steps])
-}
+const LF: u8 = b'\n';
 
 // Prints a stream as far as there is room, and answers the length of the whole text.
-fn put_stream(out: &mut [u8], stream: &[u8]) -> usize
+pub(crate) fn put_stream(out: &mut [u8], stream: &[u8]) -> usize
     requires { length stream.now ≤ most_stream }
     ensures { Prints (stream_text stream.now) out.old result out.new }
 {

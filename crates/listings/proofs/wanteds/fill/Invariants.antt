@@ -5,4 +5,4 @@ use Rattle.listings.specs.LawsLeft.{left_word}
 use Rattle.listings.proofs.wanteds.fill.Given as goal
 
 abbrev pub invariant-loop-i : goal.invariant-loop-i
-invariant-loop-i l = l.words ≡ overlay 0 l.i (left_word l.d l.image l.known l.reading) l.initial.words
+invariant-loop-i l = l.words ≡ overlay 0 l.i (left_word l.aim.device l.aim.image.now l.aim.reading.now l.reading) l.initial.words
