@@ -1,75 +1,49 @@
 -- Laws of a printed stream: a line that is a step, and the lines one after another.
-use Prim.Native.Nat.{ℕ, suc, ◌+◌, ◌-◌, ◌*◌, ◌/◌, ◌%◌, ◌≤◌, ◌<◌}
-use Rattle.std.proofs.Common.{le_of_lt, ap, ◌∙◌, length-append, length-drop, drop_of_length-le, take_all}
+use Prim.Native.Nat.{ℕ, suc, ◌+◌, ◌-◌, ◌*◌, ◌≤◌, ◌<◌}
+use Rattle.std.proofs.Common.{ap, ◌∙◌, append_assoc, length-append, length-drop, drop-drop, length-take-le, drop_of_length-le, take_all}
 use Rattle.std.proofs.Math.Nat.{zero-add}
-use Rattle.std.proofs.Math.Numerals.{add-one}
 use native.Mathlib.Omega.{arith}
 use Rattle.std.proofs.Math.Decide.{dec_lt}
-use Rattle.std.specs.Prelude.{◌≡◌, Bool, true, false, ◌&&◌, List, [], ◌∷◌, ◌++◌, ltb, leb, get_or, set, take, drop}
+use Rattle.std.specs.Prelude.{◌≡◌, min, Option, Some, None, Bool, true, false, ◌&&◌, List, [], ◌∷◌, ◌++◌, leb, take, drop}
 use Rattle.std.proofs.Math.Path.{refl, sym}
 use Rattle.std.proofs.Math.Dec.{eqb}
 use Rattle.std.proofs.Math.ListN.{length}
+use Rattle.std.proofs.lemmas.List.{nil_from_length}
 use Rattle.std.proofs.lemmas.List.Edits.{sets, sets-eq}
 use Rattle.std.proofs.Math.Seq.{length-sets, take-append_seam}
-use borrow.Author.Tests.{lt-ltb, le-ltb, le-leb, lt-leb, eq-eqb, ne_eqb, eqb-true, ltb-true}
+use borrow.Rule.Slice.PartMut.{put_mid}
+use borrow.Author.Tests.{le-leb, lt-leb, ne_eqb, eqb-true}
 use Rattle.marks.specs.Marks.{index_of, slice}
 use Rattle.words.specs.Choice.{pick}
-use Rattle.numerals.specs.Text.{tab, lf, split}
-use Rattle.numerals.specs.Hex.{capital_of, byte_by, word_by}
-use Rattle.words.specs.LawsChoice.{first_fails, second_fails, first_holds, second_holds}
+use Rattle.numerals.specs.Text.{lf, split}
+use Rattle.words.specs.LawsChoice.{first_fails, second_fails, first_holds}
 use Rattle.numerals.specs.LawsText.{part, part_found, part_last, some_piece}
 use Rattle.words.specs.LawsLists.{sets_append}
 use Rattle.trials.specs.Trial.{most_steps, is_step, typed_bytes, bad_from, bytes_in, bad_line, stream_of}
 
 -- ---- a line
 
-module _ (line : List ℕ) where
-  pub step_long : is_step line ≡ true → length line ≡ 7
-  unfolding is_step
-  step_long e = eqb-true (length line) 7 (first_holds (eqb (length line) 7) _ e)
+-- the bytes of one that is a step
+abbrev pub step_told : (line : List ℕ) → Option (List ℕ)
+step_told line = pick (is_step line) (Some (typed_bytes line)) None
 
-  pub step_code : is_step line ≡ true → byte_by capital_of line 0 < 256
-  unfolding is_step
-  step_code e = ltb-true _ 256 (first_holds (ltb (byte_by capital_of line 0) 256) _ (second_holds (eqb (length line) 7) _ e))
+pub step_yes : (line bytes : List ℕ) → Some bytes ≡ step_told line → (is_step line ≡ true) × (bytes ≡ typed_bytes line)
+step_yes line bytes = by (is_step line)
+  where
+    by : (b : Bool) → Some bytes ≡ pick b (Some (typed_bytes line)) None → (b ≡ true) × (bytes ≡ typed_bytes line)
+    by true e = unfold pick in (refl, cc)
+    by false e = absurd (unfold pick in cc)
 
-  pub step_payload : is_step line ≡ true → word_by capital_of line 3 < 65536
-  unfolding is_step
-  step_payload e =
-      ltb-true _ 65536
-      (second_holds (eqb (get_or line 2 0) tab) _ (second_holds (ltb (byte_by capital_of line 0) 256) _ (second_holds (eqb (length line) 7) _ e)))
+pub step_no : (line : List ℕ) → None ≡ step_told line → is_step line ≡ false
+step_no line = by (is_step line)
+  where
+    by : (b : Bool) → None ≡ pick b (Some (typed_bytes line)) None → b ≡ false
+    by true e = absurd (unfold pick in cc)
+    by false e = refl
 
-  pub no_step_length : (length line ≡ 7 → ⊥) → false ≡ is_step line
-  unfolding is_step
-  no_step_length n = sym (first_fails (eqb (length line) 7) _ (ne_eqb (length line) 7 n))
-
-  module _ (code : ℕ) (e : code ≡ byte_by capital_of line 0) where
-    pub no_step_code : 256 ≤ code → false ≡ is_step line
-    unfolding is_step
-    no_step_code h =
-        let high : 256 ≤ byte_by capital_of line 0 = rw e at h in
-        sym (second_fails (eqb (length line) 7) _ (first_fails (ltb (byte_by capital_of line 0) 256) _ (le-ltb (byte_by capital_of line 0) 256 high)))
-
-  pub no_step_tab : (get_or line 2 0 ≡ tab → ⊥) → false ≡ is_step line
-  unfolding is_step
-  no_step_tab n =
-      sym (second_fails (eqb (length line) 7) _ (second_fails (ltb (byte_by capital_of line 0) 256) _ (first_fails (eqb (get_or line 2 0) tab) _ (ne_eqb (get_or line 2 0) tab n))))
-
-  pub step_judged : length line ≡ 7 → (code : ℕ) → code ≡ byte_by capital_of line 0 → code < 256 → get_or line 2 0 ≡ tab
-      → (payload : ℕ) → payload ≡ word_by capital_of line 3 → ltb payload 65536 ≡ is_step line
-  unfolding is_step
-  step_judged long code e small here payload f =
-      let low : byte_by capital_of line 0 < 256 = rw e at small in
-      rw (f, eq-eqb (length line) 7 long, lt-ltb (byte_by capital_of line 0) 256 low, eq-eqb (get_or line 2 0) tab here)
-
-  -- its bytes stored one by one
-  pub step_put : (code payload at : ℕ) → code ≡ byte_by capital_of line 0 → payload ≡ word_by capital_of line 3
-      → (o p q r : List ℕ) → p ≡ set o at code → q ≡ set p (at + 1) (payload % 256) → r ≡ set q (at + 2) (payload / 256)
-      → r ≡ sets o at (typed_bytes line)
-  unfolding typed_bytes
-  step_put code payload at e f o p q r a b c =
-      let second : at + 1 ≡ suc at = add-one at in
-      let third : at + 2 ≡ suc (suc at) = omega arith in
-      c ∙ (rw (b, a, second, third, e, f))
+step_long : (line : List ℕ) → is_step line ≡ true → length line ≡ 7
+unfolding is_step
+step_long line e = eqb-true (length line) 7 (first_holds (eqb (length line) 7) _ e)
 
 -- ---- the lines
 
@@ -105,152 +79,170 @@ bytes_none : bytes_in [] ≡ []
 unfolding bytes_in
 bytes_none = refl
 
-split_nothing : (text : List ℕ) (at : ℕ) → length text ≤ at → split lf (drop at text) ≡ [] ∷ []
+split_nothing : split lf [] ≡ [] ∷ []
 unfolding split
-split_nothing text at h = rw (drop_of_length-le text h)
+split_nothing = refl
 
--- the line that a search from `at` on ended at r, and those after it
-record Next (text : List ℕ) (at r : ℕ) : Type 0 where
+-- a line of the text, and those after it
+pub record Next (text line after : List ℕ) : Type 0 where
   rest : List (List ℕ)
-  parts : split lf (drop at text) ≡ take (r - at) (drop at text) ∷ rest
-  bad : (k : ℕ) → bad_from k rest ≡ bad_from k (split lf (drop (r + 1) text))
-  bytes : bytes_in rest ≡ bytes_in (split lf (drop (r + 1) text))
-  some : (eqb (length (take (r - at) (drop at text))) 0 && eqb (length rest) 0) ≡ false
+  parts : split lf text ≡ line ∷ rest
+  bad : (k : ℕ) → bad_from k rest ≡ bad_from k (split lf after)
+  bytes : bytes_in rest ≡ bytes_in (split lf after)
+  some : (eqb (length line) 0 && eqb (length rest) 0) ≡ false
 
-module _ (text : List ℕ) (at r : ℕ) (e : r ≡ at + index_of lf (slice at (length text) text)) (left : at < length text) (stops : r ≤ length text) where
-  next_found : r < length text → Next text at r
+module _ (text : List ℕ) (stop : ℕ) (e : stop ≡ 0 + index_of lf (slice 0 (length text) text)) (some : 0 < length text) where
+  all : stop - 0 ≡ stop
+  all = omega arith
+
+  next_found : stop < length text → Next text (take stop text) (drop (min (length text) (stop + 1)) text)
   next_found h =
+      let same : min (length text) (stop + 1) ≡ stop + 1 = omega arith in
       record {
-        rest = split lf (drop (r + 1) text);
-        parts = unfold part in part_found lf text at r e (le_of_lt left) h;
-        bad = λ k. refl;
-        bytes = refl;
-        some = second_fails (eqb (length (take (r - at) (drop at text))) 0) _
-            (some_piece lf (drop (r + 1) text) (λ ls. eqb (length ls) 0 ≡ false) (λ p ps. ne_eqb (suc (length ps)) 0 (λ z. omega arith)));
+        rest = split lf (drop (stop + 1) text);
+        parts = unfold part in part_found lf text 0 stop e (omega arith) h ∙ ap (λ n. take n text ∷ split lf (drop (stop + 1) text)) all;
+        bad = λ k. ap (λ n. bad_from k (split lf (drop n text))) (sym same);
+        bytes = ap (λ n. bytes_in (split lf (drop n text))) (sym same);
+        some = second_fails (eqb (length (take stop text)) 0) _
+            (some_piece lf (drop (stop + 1) text) (λ ls. eqb (length ls) 0 ≡ false) (λ p ps. ne_eqb (suc (length ps)) 0 (λ z. omega arith)));
       }
 
-  next_last : length text ≤ r → Next text at r
+  next_last : length text ≤ stop → Next text (take stop text) (drop (min (length text) (stop + 1)) text)
   next_last h =
       record {
         rest = [];
-        parts = part_last lf text at r e (le_of_lt left) h ∙ ap (λ l. l ∷ []) (sym whole);
+        parts = part_last lf text 0 stop e (omega arith) h ∙ ap (λ l. l ∷ []) (sym whole);
         bad = λ k. bad_none k ∙ (sym (bad_nothing k) ∙ ap (bad_from k) (sym after));
         bytes = bytes_none ∙ (sym bytes_nothing ∙ ap bytes_in (sym after));
-        some = first_fails (eqb (length (take (r - at) (drop at text))) 0) _ (ne_eqb (length (take (r - at) (drop at text))) 0 long);
+        some = first_fails (eqb (length (take stop text)) 0) _ (ne_eqb (length (take stop text)) 0 long);
       }
     where
-      whole : take (r - at) (drop at text) ≡ drop at text
-      whole = take_all (r - at) (drop at text) (rw length-drop (omega arith))
+      whole : take stop text ≡ text
+      whole = take_all stop text h
 
-      after : split lf (drop (r + 1) text) ≡ [] ∷ []
-      after = split_nothing text (r + 1) (omega arith)
+      after : split lf (drop (min (length text) (stop + 1)) text) ≡ [] ∷ []
+      after = ap (split lf) (drop_of_length-le text (omega arith)) ∙ split_nothing
 
-      long : length (take (r - at) (drop at text)) ≡ 0 → ⊥
-      long z = let n : length text - at ≡ 0 = sym (ap length whole ∙ length-drop at text) ∙ z in omega arith
+      long : length (take stop text) ≡ 0 → ⊥
+      long z = let n : length text ≡ 0 = sym (ap length whole) ∙ z in omega arith
 
-  next : Next text at r
-  next = by (dec_lt r (length text))
+  next_either : Next text (take stop text) (drop (min (length text) (stop + 1)) text)
+  next_either = by (dec_lt stop (length text))
     where
-      by : Dec (r < length text) → Next text at r
+      by : Dec (stop < length text) → Next text (take stop text) (drop (min (length text) (stop + 1)) text)
       by (yes h) = next_found h
       by (no h) = next_last (omega arith)
 
+  pub next : (from : ℕ) → from ≡ min (length text) (stop + 1) → Next text (take stop text) (take (length text - from) (drop from text))
+  next from f = rw (take_all (length text - from) (drop from text) (rw length-drop (omega arith)), f) next_either
+
+  -- what is ahead gets shorter
+  pub next_shorter : (from : ℕ) → from ≡ min (length text) (stop + 1) → length (take (length text - from) (drop from text)) < length text
+  next_shorter from f = rw (length-take-le (length text - from) (drop from text) (rw length-drop (omega arith))) (omega arith)
+
 -- ---- the loop over the lines
 
--- so many steps are stored, and the lines from `at` on are ahead
-pub record Typing (text stream₀ : List ℕ) (at steps : ℕ) (stream : List ℕ) : Type 0 where
-  pub within : at ≤ length text + 1
+-- a part that was written over
+put_sets : (a k : ℕ) (xs ys : List ℕ) → length ys ≡ k → a + k ≤ length xs → put_mid a k xs ys ≡ sets xs a ys
+put_sets a k xs ys e h = rw (← e, drop-drop) (sym (sets-eq ys xs a (omega arith) ∙ append_assoc (take a xs) ys (drop (a + length ys) xs)))
+
+-- so many steps are stored, and this text is ahead
+pub record Typing (text stream₀ ahead : List ℕ) (steps : ℕ) (stream : List ℕ) : Type 0 where
   pub few : steps ≤ 32768
   pub kept : length stream ≡ length stream₀
-  pub bad : bad_from (steps + 1) (split lf (drop at text)) ≡ bad_line text
-  pub bytes : sets stream (3 * steps) (bytes_in (split lf (drop at text))) ≡ sets stream₀ 0 (stream_of text)
-  pub count : 3 * steps + length (bytes_in (split lf (drop at text))) ≡ length (stream_of text)
+  pub bad : bad_from (steps + 1) (split lf ahead) ≡ bad_line text
+  pub bytes : sets stream (3 * steps) (bytes_in (split lf ahead)) ≡ sets stream₀ 0 (stream_of text)
+  pub count : 3 * steps + length (bytes_in (split lf ahead)) ≡ length (stream_of text)
 
--- what the loop answers; the bytes before a bad line are of no use
-pub record StreamRead (text stream₀ : List ℕ) (line steps : ℕ) (stream : List ℕ) : Type 0 where
-  pub line_is : line ≡ bad_line text
+-- every line is a step, and their bytes are stored
+pub record Stored (text stream₀ : List ℕ) (steps : ℕ) (stream : List ℕ) : Type 0 where
+  pub good : bad_line text ≡ 0
   pub few : steps ≤ 32768
-  pub count : line ≡ 0 → 3 * steps ≡ length (stream_of text)
-  pub bytes : line ≡ 0 → stream ≡ sets stream₀ 0 (stream_of text)
+  pub count : 3 * steps ≡ length (stream_of text)
+  pub bytes : stream ≡ sets stream₀ 0 (stream_of text)
+
+-- the first line that is no step or one too many
+pub record BadLine (text : List ℕ) (line : ℕ) : Type 0 where
+  pub line_is : line ≡ bad_line text
+  pub some : 0 < line
 
 module _ (text stream₀ : List ℕ) where
-  pub typing_all : Typing text stream₀ 0 0 stream₀
+  pub typing_all : Typing text stream₀ text 0 stream₀
   unfolding bad_line stream_of
-  typing_all = record { within = omega arith; few = omega arith; kept = refl; bad = refl; bytes = refl; count = zero-add _ }
+  typing_all = record { few = omega arith; kept = refl; bad = refl; bytes = refl; count = zero-add _ }
 
-  module _ (at steps : ℕ) (stream : List ℕ) (t : Typing text stream₀ at steps stream) where
-    module _ (left : at < length text) (r : ℕ) (e : r ≡ at + index_of lf (slice at (length text) text)) (stops : r ≤ length text) where
-      ahead : Next text at r
-      ahead = next text at r e left stops
-
-      stopped : (is_step (take (r - at) (drop at text)) && leb (steps + 1) most_steps) ≡ false → StreamRead text stream₀ (steps + 1) steps stream
+  module _ (ahead : List ℕ) (steps : ℕ) (stream : List ℕ) (t : Typing text stream₀ ahead steps stream) where
+    module _ (line after : List ℕ) (next : Next ahead line after) where
+      stopped : (is_step line && leb (steps + 1) most_steps) ≡ false → BadLine text (steps + 1)
       stopped f =
           record {
-            line_is = sym (bad_stop (take (r - at) (drop at text)) ahead.rest (steps + 1) ahead.some f) ∙ (ap (bad_from (steps + 1)) (sym ahead.parts) ∙ t.bad);
-            few = t.few;
-            count = λ z. absurd (omega arith);
-            bytes = λ z. absurd (omega arith);
+            line_is = sym (bad_stop line next.rest (steps + 1) next.some f) ∙ (ap (bad_from (steps + 1)) (sym next.parts) ∙ t.bad);
+            some = omega arith;
           }
 
-      pub typing_many : 32768 ≤ steps → StreamRead text stream₀ (steps + 1) steps stream
-      typing_many h = stopped (second_fails (is_step (take (r - at) (drop at text))) _ (lt-leb (steps + 1) most_steps (omega arith)))
+      pub typing_many : 32768 ≤ steps → BadLine text (steps + 1)
+      typing_many h = stopped (second_fails (is_step line) _ (lt-leb (steps + 1) most_steps (omega arith)))
 
-      pub typing_stop : (b : Bool) → b ≡ is_step (take (r - at) (drop at text)) → b ≡ false → StreamRead text stream₀ (steps + 1) steps stream
-      typing_stop b q f = stopped (first_fails (is_step (take (r - at) (drop at text))) _ (sym q ∙ f))
+      pub typing_stop : None ≡ step_told line → BadLine text (steps + 1)
+      typing_stop e = stopped (first_fails (is_step line) _ (step_no line e))
 
-      pub typing_on : steps < 32768 → (b : Bool) → b ≡ is_step (take (r - at) (drop at text)) → b ≡ true
-          → (stream' : List ℕ) → stream' ≡ sets stream (3 * steps) (typed_bytes (take (r - at) (drop at text))) → Typing text stream₀ (r + 1) (steps + 1) stream'
-      typing_on h b q y stream' w =
+      step_on : steps < 32768 → is_step line ≡ true
+          → (stream' : List ℕ) → stream' ≡ sets stream (3 * steps) (typed_bytes line) → Typing text stream₀ after (steps + 1) stream'
+      step_on h y stream' w =
           record {
-            within = omega arith;
             few = omega arith;
-            kept = ap length w ∙ (length-sets stream (3 * steps) (typed_bytes (take (r - at) (drop at text))) ∙ t.kept);
-            bad = sym (ahead.bad (steps + 1 + 1)) ∙ (sym (bad_on (take (r - at) (drop at text)) ahead.rest (steps + 1) yes_step (omega arith)) ∙
-                (ap (bad_from (steps + 1)) (sym ahead.parts) ∙ t.bad));
+            kept = ap length w ∙ (length-sets stream (3 * steps) (typed_bytes line) ∙ t.kept);
+            bad = sym (next.bad (steps + 1 + 1)) ∙ (sym (bad_on line next.rest (steps + 1) y (omega arith)) ∙ (ap (bad_from (steps + 1)) (sym next.parts) ∙ t.bad));
             bytes = stored;
             count = counted;
           }
         where
-          yes_step : is_step (take (r - at) (drop at text)) ≡ true
-          yes_step = sym q ∙ y
+          these : bytes_in (split lf ahead) ≡ typed_bytes line ++ bytes_in (split lf after)
+          these = ap bytes_in next.parts ∙ (bytes_on line next.rest y ∙ ap (λ l. typed_bytes line ++ l) next.bytes)
 
-          these : bytes_in (split lf (drop at text)) ≡ typed_bytes (take (r - at) (drop at text)) ++ bytes_in (split lf (drop (r + 1) text))
-          these =
-              ap bytes_in ahead.parts
-              ∙ (bytes_on (take (r - at) (drop at text)) ahead.rest yes_step ∙ ap (λ l. typed_bytes (take (r - at) (drop at text)) ++ l) ahead.bytes)
-
-          three : length (typed_bytes (take (r - at) (drop at text))) ≡ 3
+          three : length (typed_bytes line) ≡ 3
           three = unfold typed_bytes in refl
 
-          stored : sets stream' (3 * (steps + 1)) (bytes_in (split lf (drop (r + 1) text))) ≡ sets stream₀ 0 (stream_of text)
+          stored : sets stream' (3 * (steps + 1)) (bytes_in (split lf after)) ≡ sets stream₀ 0 (stream_of text)
           stored =
-              let place : 3 * (steps + 1) ≡ 3 * steps + length (typed_bytes (take (r - at) (drop at text))) = rw three (omega arith) in
-              rw (w, place) (sets_append stream (3 * steps) (typed_bytes (take (r - at) (drop at text))) (bytes_in (split lf (drop (r + 1) text))))
+              let place : 3 * (steps + 1) ≡ 3 * steps + length (typed_bytes line) = rw three (omega arith) in
+              rw (w, place) (sets_append stream (3 * steps) (typed_bytes line) (bytes_in (split lf after)))
               ∙ (ap (sets stream (3 * steps)) (sym these) ∙ t.bytes)
 
-          counted : 3 * (steps + 1) + length (bytes_in (split lf (drop (r + 1) text))) ≡ length (stream_of text)
+          counted : 3 * (steps + 1) + length (bytes_in (split lf after)) ≡ length (stream_of text)
           counted =
-              let whole : length (bytes_in (split lf (drop at text))) ≡ 3 + length (bytes_in (split lf (drop (r + 1) text))) =
-              ap length these ∙ (length-append (typed_bytes (take (r - at) (drop at text))) _ ∙ ap (λ n. n + length (bytes_in (split lf (drop (r + 1) text)))) three) in
-              let before : 3 * steps + length (bytes_in (split lf (drop at text))) ≡ length (stream_of text) = t.count in
+              let whole : length (bytes_in (split lf ahead)) ≡ 3 + length (bytes_in (split lf after)) =
+              ap length these ∙ (length-append (typed_bytes line) _ ∙ ap (λ n. n + length (bytes_in (split lf after))) three) in
+              let before : 3 * steps + length (bytes_in (split lf ahead)) ≡ length (stream_of text) = t.count in
               omega arith
 
-    pub typing_end : length text ≤ at → StreamRead text stream₀ 0 steps stream
+      pub typing_on : steps < 32768 → (bytes : List ℕ) → Some bytes ≡ step_told line → length stream₀ ≡ 98304 → (k : ℕ) → k ≡ 3 → (put : List ℕ) → put ≡ bytes
+          → Typing text stream₀ after (steps + 1) (put_mid (3 * steps) k stream put)
+      typing_on h bytes e room k three put w =
+          let (y, is) = step_yes line bytes e in
+          let same : put ≡ typed_bytes line = w ∙ is in
+          let long : length (typed_bytes line) ≡ 3 = unfold typed_bytes in refl in
+          step_on h y _ (put_sets (3 * steps) k stream put (ap length same ∙ (long ∙ sym three)) (omega (arith, t.kept)) ∙ ap (sets stream (3 * steps)) same)
+
+    pub typing_end : length ahead ≡ 0 → Stored text stream₀ steps stream
     typing_end h =
         record {
-          line_is = sym (ap (bad_from (steps + 1)) (split_nothing text at h) ∙ bad_nothing (steps + 1)) ∙ t.bad;
+          good = sym (sym (ap (bad_from (steps + 1)) nothing ∙ bad_nothing (steps + 1)) ∙ t.bad);
           few = t.few;
-          count = λ z. counted;
-          bytes = λ z. sym (ap (sets stream (3 * steps)) none) ∙ t.bytes;
+          count = counted;
+          bytes = sym (ap (sets stream (3 * steps)) none) ∙ t.bytes;
         }
       where
-        none : bytes_in (split lf (drop at text)) ≡ []
-        none = ap bytes_in (split_nothing text at h) ∙ bytes_nothing
+        nothing : split lf ahead ≡ [] ∷ []
+        nothing = ap (split lf) (nil_from_length ahead h) ∙ split_nothing
+
+        none : bytes_in (split lf ahead) ≡ []
+        none = ap bytes_in nothing ∙ bytes_nothing
 
         counted : 3 * steps ≡ length (stream_of text)
         counted =
-            let z : length (bytes_in (split lf (drop at text))) ≡ 0 = ap length none in
-            let before : 3 * steps + length (bytes_in (split lf (drop at text))) ≡ length (stream_of text) = t.count in
+            let z : length (bytes_in (split lf ahead)) ≡ 0 = ap length none in
+            let before : 3 * steps + length (bytes_in (split lf ahead)) ≡ length (stream_of text) = t.count in
             omega arith
 
 -- ---- a text stored at the front

@@ -9,24 +9,24 @@ ghost use Rattle.print.specs.Print.{Prints};
 ghost use Rattle.trials.specs.Trial.{trial_text};
 
 use device::READING_TAIL;
+use refusal::Refusal;
+use typed::MOST_STEPS;
 
 // Prints the sheet after a printed stream was played on the model, as far as there is room, and answers the length of the whole text.
 pub fn trial(table: &[u8], sheet: &[u8], stream: &[u8], out: &mut [u8]) -> usize
     ensures { (Prints (trial_text table.now sheet.now stream.now) out.old result out.new) × (result ≤ 46135) }
 {
     let mut reading = [0u16; board::MOST_READING];
-    let opened = board::open_board(table, sheet, &mut reading);
-    if opened.number != 0 {
-        return print::refusal(out, opened.number, 0, 0);
-    }
-    let mut bytes = [0u8; typed::MOST_BYTES];
-    let read = typed::read_stream(stream, &mut bytes);
-    if read.line != 0 {
-        return print::refusal(out, 34, read.line, 1);
-    }
-    let device = opened.device;
+    let device = match board::open_board(table, sheet, &mut reading) {
+        Ok(found) => found.device,
+        Err(refusal) => return print::refusal(out, refusal.number(), 0, 0),
+    };
+    let mut bytes = [0u8; 3 * MOST_STEPS];
+    let steps = match typed::read_stream(stream, &mut bytes) {
+        Ok(steps) => steps,
+        Err(line) => return print::refusal(out, Refusal::BrokenStream.number(), line, 1),
+    };
     let count = (device.words as usize) + READING_TAIL;
-    let length = 3 * read.steps;
-    let first = sheet::read_id(sheet);
-    played::put_run(device, first.id, &reading[..count], &bytes[..length], out)
+    let id = sheet::read_id(sheet).unwrap();
+    played::put_run(device, id, &reading[..count], &bytes[..3 * steps], out)
 }
