@@ -1,22 +1,22 @@
 -- How records and answers cross to C: a record as six numbers in a row, an answer as its number and the values stored beside it.
 use Rattle.std.specs.Prelude.{ℕ, ◌≡◌, List, [], ◌∷◌, get_or}
 use Rattle.device.specs.declared.Device.{Device}
-use Rattle.table.specs.declared.Found.{Found}
-use Rattle.judge.specs.declared.Sum.{Sum}
-use Rattle.judge.specs.declared.Verdict.{Verdict}
-use Rattle.sheet.specs.declared.Line1.{Line1}
-use Rattle.sheetwrite.specs.declared.Written.{Written}
-use Rattle.hexread.specs.declared.ReadHex.{ReadHex}
-use Rattle.hexwrite.specs.declared.WrittenHex.{WrittenHex}
-use Rattle.target.specs.declared.Ran.{Ran}
-use Rattle.plan.specs.declared.Planned.{Planned}
+use Rattle.table.specs.Table.{Found}
+use Rattle.judge.specs.Checksum.{Sum}
+use Rattle.judge.specs.Verify.{ToldVerdict}
+use Rattle.sheet.specs.FirstLine.{Line1}
+use Rattle.sheetwrite.specs.Write.{Written}
+use Rattle.hexread.specs.Reader.{ReadHex}
+use Rattle.hexwrite.specs.Writer.{WrittenHex}
+use Rattle.target.specs.Run.{Ran}
+use Rattle.plan.specs.Answers.{Planned}
 
 -- the record of six numbers: ID, program words, row words, masks 1 and 2, and the ID's mask
-unfoldable pub device_at : List ℕ → Device
+abbrev pub device_at : List ℕ → Device
 device_at l = record { id = get_or l 0 0; words = get_or l 1 0; row = get_or l 2 0; mask1 = get_or l 3 0; mask2 = get_or l 4 0; idmask = get_or l 5 0 }
 
 -- the six numbers of a record, in the same order
-unfoldable pub numbers_of : Device → List ℕ
+abbrev pub numbers_of : Device → List ℕ
 numbers_of d = d.id ∷ d.words ∷ d.row ∷ d.mask1 ∷ d.mask2 ∷ d.idmask ∷ []
 
 -- ---- the answers, put together again
@@ -24,7 +24,7 @@ numbers_of d = d.id ∷ d.words ∷ d.row ∷ d.mask1 ∷ d.mask2 ∷ d.idmask �
 abbrev pub sum_answer : (number sum : ℕ) → Sum
 sum_answer number sum = record { number = number; sum = sum }
 
-abbrev pub verdict_answer : (number address count : ℕ) → Verdict
+abbrev pub verdict_answer : (number address count : ℕ) → ToldVerdict
 verdict_answer number address count = record { number = number; address = record { 0 = address }; count = count }
 
 abbrev pub id_answer : (number id : ℕ) → Line1

@@ -1,7 +1,7 @@
 -- Laws of what crosses to C: a record comes back from its six numbers, and a search's answer from its parts.
 use Rattle.std.specs.Prelude.{ℕ, ◌≡◌, List}
 use Rattle.std.proofs.Common.{ap, ◌∙◌}
-use Rattle.table.specs.declared.Found.{Found}
+use Rattle.table.specs.Table.{Found}
 use Rattle.capi.specs.Crossing.{numbers_of, Finds}
 
 -- the parts of a search's answer

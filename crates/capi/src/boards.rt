@@ -8,15 +8,16 @@ ghost use Rattle.sheetwrite.specs.Write.{written, written_text, new_written, new
 ghost use Rattle.capi.specs.Crossing.{device_at, sum_answer, verdict_answer, id_answer, sheet_answer};
 
 use crate::record::device_at;
+use crate::told::told;
+use judge::Verdict;
+use refusal::number_in;
 
 // The checksum of a reading.
 #[unsafe(no_mangle)]
 pub extern "C" fn tickmallet_checksum(numbers: &[u16; 6], reading: &[u16], sum: &mut u16) -> u8
     ensures { sum_answer result sum.new ≡ summed (device_at numbers.now) reading.now }
 {
-    let s = judge::checksum(device_at(numbers), reading);
-    *sum = s.sum;
-    s.number
+    told(judge::checksum(device_at(numbers), reading), 0, sum)
 }
 
 // A reading held against a wanted one.
@@ -30,10 +31,23 @@ pub extern "C" fn tickmallet_verify(
 ) -> u8
     ensures { verdict_answer result address.new count.new ≡ verified (device_at numbers.now) wanted.now reading.now }
 {
-    let v = judge::verify(device_at(numbers), wanted, reading);
-    *address = v.address.0;
-    *count = v.count;
-    v.number
+    *address = 0;
+    *count = 0;
+    match judge::verify(device_at(numbers), wanted, reading) {
+        Ok(Verdict::Same) => 0,
+        Ok(
+            Verdict::Differs {
+                address: first,
+                count: all,
+            },
+        ) => {
+            *address = first.0;
+            *count = all;
+            40
+        }
+        Ok(Verdict::Protected) => 41,
+        Err(refusal) => refusal.number(),
+    }
 }
 
 // The ID on a sheet's first line.
@@ -41,9 +55,7 @@ pub extern "C" fn tickmallet_verify(
 pub extern "C" fn tickmallet_read_id(text: &[u8], id: &mut u16) -> u8
     ensures { id_answer result id.new ≡ first_line text.now }
 {
-    let first = sheet::read_id(text);
-    *id = first.id;
-    first.number
+    told(sheet::read_id(text), 0, id)
 }
 
 // A sheet of either form read into a buffer.
@@ -57,7 +69,7 @@ pub extern "C" fn tickmallet_read_sheet(
     ensures { (result ≡ read_number (device_at numbers.now) name.now text.now buffer.old)
         × (buffer.new ≡ read_buffer (device_at numbers.now) name.now text.now buffer.old) }
 {
-    sheet::read_sheet(device_at(numbers), name, text, buffer)
+    number_in(&sheet::read_sheet(device_at(numbers), name, text, buffer))
 }
 
 // A sheet written in the old form.
@@ -71,9 +83,11 @@ pub extern "C" fn tickmallet_write_sheet(
     ensures { (sheet_answer result length.new ≡ written (device_at numbers.now) reading.now out.old)
         × (out.new ≡ written_text (device_at numbers.now) reading.now out.old) }
 {
-    let w = sheetwrite::write_sheet(device_at(numbers), reading, out);
-    *length = w.length;
-    w.number
+    told(
+        sheetwrite::write_sheet(device_at(numbers), reading, out),
+        0,
+        length,
+    )
 }
 
 // A sheet written in the new form.
@@ -88,7 +102,9 @@ pub extern "C" fn tickmallet_write_new_sheet(
     ensures { (sheet_answer result length.new ≡ new_written (device_at numbers.now) name.now reading.now out.old)
         × (out.new ≡ new_written_text (device_at numbers.now) name.now reading.now out.old) }
 {
-    let w = sheetwrite::write_new_sheet(device_at(numbers), name, reading, out);
-    *length = w.length;
-    w.number
+    told(
+        sheetwrite::write_new_sheet(device_at(numbers), name, reading, out),
+        0,
+        length,
+    )
 }

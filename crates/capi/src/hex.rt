@@ -4,6 +4,7 @@ ghost use Rattle.hexwrite.specs.Writer.{WroteHex};
 ghost use Rattle.capi.specs.Crossing.{device_at, hex_outcome, hex_answer};
 
 use crate::record::device_at;
+use crate::told::told;
 
 // HEX text read into an image.
 #[unsafe(no_mangle)]
@@ -16,10 +17,16 @@ pub extern "C" fn tickmallet_read_hex(
 ) -> u8
     ensures { HexRead (device_at numbers.now) text.now image.old (hex_outcome result line.new column.new) image.new }
 {
-    let a = hexread::read_hex(device_at(numbers), text, image);
-    *line = a.line;
-    *column = a.column;
-    a.number
+    *line = 0;
+    *column = 0;
+    match hexread::read_hex(device_at(numbers), text, image) {
+        Ok(()) => 0,
+        Err(misread) => {
+            *line = misread.line;
+            *column = misread.column;
+            misread.refusal.number()
+        }
+    }
 }
 
 // An image written as HEX text.
@@ -32,7 +39,9 @@ pub extern "C" fn tickmallet_write_hex(
 ) -> u8
     ensures { WroteHex (device_at numbers.now) image.now out.old (hex_answer result length.new) out.new }
 {
-    let w = hexwrite::write_hex(device_at(numbers), image, out);
-    *length = w.length;
-    w.number
+    told(
+        hexwrite::write_hex(device_at(numbers), image, out),
+        0,
+        length,
+    )
 }

@@ -8,3 +8,4 @@ mod model;
 mod moved;
 mod record;
 mod streams;
+mod told;

@@ -17,8 +17,16 @@ pub extern "C" fn tickmallet_run(
 ) -> u8
     ensures { Runs (device_at numbers.now) stream.now allowance words.old cells.old (run_answer result steps.new read.new) words.new cells.new }
 {
-    let a = target::run(device_at(numbers), cells, stream, allowance, words);
-    *steps = a.steps;
-    *read = a.words;
-    a.number
+    match target::run(device_at(numbers), cells, stream, allowance, words) {
+        Ok(ran) => {
+            *steps = ran.steps;
+            *read = ran.words;
+            0
+        }
+        Err(stopped) => {
+            *steps = stopped.steps;
+            *read = 0;
+            stopped.refusal.number()
+        }
+    }
 }

@@ -3,6 +3,8 @@ ghost use Rattle.std.specs.Prelude.{◌≡◌};
 ghost use Rattle.moves.specs.Move.{move_number, new_of, old_of, moved, moved_text};
 ghost use Rattle.capi.specs.Crossing.{sheet_answer};
 
+use crate::told::told;
+
 // A sheet moved to the new form.
 #[unsafe(no_mangle)]
 pub extern "C" fn tickmallet_to_new(
@@ -14,9 +16,7 @@ pub extern "C" fn tickmallet_to_new(
     ensures { (sheet_answer result length.new ≡ moved (move_number table.now text.now) (new_of table.now text.now) out.old)
         × (out.new ≡ moved_text (move_number table.now text.now) (new_of table.now text.now) out.old) }
 {
-    let new = moves::to_new(table, text, out);
-    *length = new.length;
-    new.number
+    told(moves::to_new(table, text, out), 0, length)
 }
 
 // A sheet moved to the old form.
@@ -30,7 +30,5 @@ pub extern "C" fn tickmallet_to_old(
     ensures { (sheet_answer result length.new ≡ moved (move_number table.now text.now) (old_of table.now text.now) out.old)
         × (out.new ≡ moved_text (move_number table.now text.now) (old_of table.now text.now) out.old) }
 {
-    let old = moves::to_old(table, text, out);
-    *length = old.length;
-    old.number
+    told(moves::to_old(table, text, out), 0, length)
 }

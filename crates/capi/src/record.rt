@@ -1,7 +1,7 @@
 // Device records and the device table.
 ghost use Rattle.std.specs.Prelude.{◌≡◌};
 ghost use Rattle.table.specs.Table.{found_in};
-ghost use Rattle.capi.specs.Crossing.{device_at, numbers_of, Finds};
+ghost use Rattle.capi.specs.Crossing.{device_at, Finds};
 
 use device::Device;
 
@@ -20,6 +20,7 @@ pub(crate) fn device_at(numbers: &[u16; 6]) -> Device
 }
 
 // The record of an ID in a table, and where its name stands in the text.
+#[tactic(auto, unfolding(table::specs::Table::refused))]
 #[unsafe(no_mangle)]
 pub extern "C" fn tickmallet_find_device(
     table: &[u8],
@@ -30,16 +31,19 @@ pub extern "C" fn tickmallet_find_device(
 ) -> u8
     ensures { Finds (found_in table.now id) result numbers.new name_at.new name_len.new }
 {
-    let found = table::find_device(table, id);
-    put_device(numbers, found.device);
-    *name_at = found.name_at;
-    *name_len = found.name_len;
-    found.number
-}
-
-// The six numbers of a record.
-fn put_device(numbers: &mut [u16; 6], d: Device)
-    ensures { numbers.new ≡ numbers_of d }
-{
-    *numbers = [d.id, d.words, d.row, d.mask1, d.mask2, d.idmask];
+    match table::find_device(table, id) {
+        Ok(found) => {
+            let d = found.device;
+            *numbers = [d.id, d.words, d.row, d.mask1, d.mask2, d.idmask];
+            *name_at = found.name_at;
+            *name_len = found.name_len;
+            0
+        }
+        Err(refusal) => {
+            *numbers = [0; 6];
+            *name_at = 0;
+            *name_len = 0;
+            refusal.number()
+        }
+    }
 }

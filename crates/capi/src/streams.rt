@@ -5,6 +5,7 @@ ghost use Rattle.plan.specs.Answers.{read_back_number, Plans};
 ghost use Rattle.capi.specs.Crossing.{device_at, plan_answer};
 
 use crate::record::device_at;
+use crate::told::told;
 
 // The stream of an update.
 #[unsafe(no_mangle)]
@@ -18,9 +19,11 @@ pub extern "C" fn tickmallet_update(
     ensures { Plans (update_number (device_at numbers.now) image.now reading.now) (update_steps (device_at numbers.now) image.now reading.now)
         out.old (plan_answer result steps.new) out.new }
 {
-    let p = plan::update(device_at(numbers), image, reading, out);
-    *steps = p.steps;
-    p.number
+    told(
+        plan::update(device_at(numbers), image, reading, out),
+        0,
+        steps,
+    )
 }
 
 // The stream of a fresh programming.
@@ -35,9 +38,11 @@ pub extern "C" fn tickmallet_fresh(
     ensures { Plans (fresh_number (device_at numbers.now) image.now id_word) (fresh_steps (device_at numbers.now) image.now)
         out.old (plan_answer result steps.new) out.new }
 {
-    let p = plan::fresh(device_at(numbers), image, id_word, out);
-    *steps = p.steps;
-    p.number
+    told(
+        plan::fresh(device_at(numbers), image, id_word, out),
+        0,
+        steps,
+    )
 }
 
 // The stream that reads a whole board.
@@ -45,7 +50,5 @@ pub extern "C" fn tickmallet_fresh(
 pub extern "C" fn tickmallet_read_back(numbers: &[u16; 6], out: &mut [u8], steps: &mut usize) -> u8
     ensures { Plans (read_back_number (device_at numbers.now)) (read_back_steps (device_at numbers.now)) out.old (plan_answer result steps.new) out.new }
 {
-    let p = plan::read_back(device_at(numbers), out);
-    *steps = p.steps;
-    p.number
+    told(plan::read_back(device_at(numbers), out), 0, steps)
 }

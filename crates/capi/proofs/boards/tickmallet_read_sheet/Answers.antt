@@ -1,5 +1,0 @@
--- The answer below is the same under the record that the six numbers give.
-use Rattle.capi.proofs.boards.tickmallet_read_sheet.Goals as goal
-
-pub returns : goal.returns
-returns c = rw (← c.device_at.ensures) c.read_sheet.ensures
