@@ -1,5 +1,5 @@
 -- Laws of the moves: what a caller has of a sheet that is not refused, that each form moved to the other and back is the same bytes, and the answers.
-use Rattle.std.specs.Prelude.{ℕ, ◌≤◌, Bool, List, take}
+use Rattle.std.specs.Prelude.{ℕ, ◌≤◌, Bool, List, Result, take}
 use Rattle.std.proofs.Math.Nat.{zero-add}
 use native.Mathlib.Omega.{arith}
 use Rattle.std.proofs.Math.Path.{◌≡◌, refl, sym, ap}
@@ -7,9 +7,9 @@ use Rattle.std.proofs.Common.{subst, ◌∙◌, inl, inr}
 use Rattle.std.proofs.Math.Bool.{true, false}
 use Rattle.std.proofs.Math.Dec.{leb, eqb}
 use Rattle.std.proofs.Math.ListN.{length}
-use Rattle.std.proofs.Math.Seq.{sets, sets-eq, take_at}
+use Rattle.std.proofs.Math.Seq.{sets, length-sets, sets-eq, take_at}
 use borrow.Author.Tests.{eq-eqb, eqb-true, ne_eqb, le-leb, leb-true}
-use Rattle.words.specs.Choice.{pick, unless}
+use Rattle.words.specs.Choice.{pick}
 use Rattle.words.specs.LawsChoice.{pick_true, pick_false, true_not_false}
 use Rattle.words.specs.LawsTests.{by_eq}
 use Rattle.device.specs.declared.Device.{Device}
@@ -23,36 +23,18 @@ use Rattle.sheet.specs.FirstLine.{id_in, is_new, line_ok, first_line}
 use Rattle.sheet.specs.Sheet.{sheet_with, new_with, words_in, sheet_ok, sheet_number}
 use Rattle.sheet.specs.LawsFirstLine.{first_given, id_stands}
 use Rattle.sheet.specs.LawsSheet.{ReadOld, ReadNew, written_read, new_written_read, read_line_1, read_fits, read_sound, read_written, taken_written, taken, new_exactly, sum_small}
-use Rattle.sheetwrite.specs.declared.Written.{Written}
-use Rattle.board.specs.Open.{most_program, record_of, name_of, open_number, board_reading}
+use Rattle.refusal.specs.declared.Refusal.{Refusal}
+use Rattle.refusal.specs.LawsRefusal.{answer_unique}
+use Rattle.sheetwrite.specs.Write.{Written, written_told}
+use Rattle.board.specs.Open.{record_of, name_of, find_number, board_reading}
 use Rattle.moves.specs.Move.{move_number, new_of, old_of, moved, moved_text}
 
 -- ---- the table, line 1 and the search
 
--- 15, 14 for line 1, 16
-unfoldable pub found_number : (table text : List ℕ) → ℕ
-found_number table text =
-    unless (table_ok table) 15
-    (unless (eqb (first_line text).number 0) 14
-    (unless (has_id (first_line text).id (table_lines table)) 16
-    0))
-
 module _ (table text : List ℕ) where
-  -- it is the number of an opened record, of which 17 is lifted: a move serves every record
-  pub lifted_is : pick (eqb (open_number table text) 17) 0 (open_number table text) ≡ found_number table text
-  unfolding open_number found_number
-  lifted_is = by (table_ok table) (eqb (first_line text).number 0) (has_id (first_line text).id (table_lines table)) (leb (record_of table text).words most_program)
-    where
-      by : (t f h w : Bool) → ◌≡◌ {A = ℕ} (pick (eqb (pick t (pick f (pick h (pick w 0 17) 16) 14) 15) 17) 0 (pick t (pick f (pick h (pick w 0 17) 16) 14) 15)) (pick t (pick f (pick h 0 16) 14) 15)
-      by true true true true = unfold pick in refl
-      by true true true false = unfold pick in refl
-      by true true false w = unfold pick in refl
-      by true false h w = unfold pick in refl
-      by false f h w = unfold pick in refl
-
-  -- and the number of a move begins with it
-  pub move_refused : (found_number table text ≡ 0 → ⊥) → move_number table text ≡ found_number table text
-  unfolding move_number found_number
+  -- the number of a move begins with what finds the record
+  pub move_refused : (find_number table text ≡ 0 → ⊥) → move_number table text ≡ find_number table text
+  unfolding move_number find_number
   move_refused = by (table_ok table) (eqb (first_line text).number 0) (has_id (first_line text).id (table_lines table))
     where
       by : (t f h : Bool) → (pick {A = ℕ} t (pick f (pick h 0 16) 14) 15 ≡ 0 → ⊥) → pick t (pick f (pick h (sheet_number (record_of table text) (name_of table text) text) 16) 14) 15 ≡ pick t (pick f (pick h 0 16) 14) 15
@@ -61,8 +43,8 @@ module _ (table text : List ℕ) where
       by true false h n = unfold pick in refl
       by false f h n = unfold pick in refl
 
-  pub move_found : found_number table text ≡ 0 → move_number table text ≡ sheet_number (record_of table text) (name_of table text) text
-  unfolding move_number found_number
+  pub move_found : find_number table text ≡ 0 → move_number table text ≡ sheet_number (record_of table text) (name_of table text) text
+  unfolding move_number find_number
   move_found = by (table_ok table) (eqb (first_line text).number 0) (has_id (first_line text).id (table_lines table))
     where
       by : (t f h : Bool) → pick {A = ℕ} t (pick f (pick h 0 16) 14) 15 ≡ 0
@@ -73,8 +55,8 @@ module _ (table text : List ℕ) where
       by false f h q = absurd (unfold pick in omega (arith, q))
 
   -- a sheet that is not refused was found
-  pub move_there : move_number table text ≡ 0 → found_number table text ≡ 0
-  move_there z = by_eq (found_number table text) 0 (λ e. e) (λ n. sym (move_refused n) ∙ z)
+  pub move_there : move_number table text ≡ 0 → find_number table text ≡ 0
+  move_there z = by_eq (find_number table text) 0 (λ e. e) (λ n. sym (move_refused n) ∙ z)
 
 -- what was found: table and line 1 are sound, and so are the record and the name that they give
 pub record Finds (table text : List ℕ) : Type 0 where
@@ -84,8 +66,8 @@ pub record Finds (table text : List ℕ) : Type 0 where
   pub sound : device_ok (record_of table text) ≡ true
   pub named : name_ok (name_of table text) ≡ true
 
-pub finds : (table text : List ℕ) → found_number table text ≡ 0 → Finds table text
-unfolding found_number record_of name_of
+pub finds : (table text : List ℕ) → find_number table text ≡ 0 → Finds table text
+unfolding find_number record_of name_of
 finds table text z = by (table_ok table) (eqb (first_line text).number 0) (has_id (first_line text).id (table_lines table)) refl refl refl z
   where
     by : (t f h : Bool) → table_ok table ≡ t → eqb (first_line text).number 0 ≡ f → has_id (first_line text).id (table_lines table) ≡ h
@@ -223,6 +205,10 @@ module _ (table text : List ℕ) (z : move_number table text ≡ 0) where
 
 -- ---- the answers
 
+-- two answers that are told alike are equal
+pub moved_unique : (a b : Result ℕ Refusal) → written_told a ≡ written_told b → a ≡ b
+moved_unique a b e = answer_unique 0 a b (ap (λ x. x.number) e) (ap (λ x. x.length) e)
+
 -- what a call leaves: its answer and the text
 abbrev pub Moved : (number : ℕ) (whole out : List ℕ) → Written → List ℕ → Type 0
 Moved number whole out r after = (r ≡ moved number whole out) × (after ≡ moved_text number whole out)
@@ -245,17 +231,6 @@ module _ (number : ℕ) (whole out : List ℕ) where
       let is : w ≡ moved number whole out = e ∙ sym (pick_true (eqb number 0) _ _ (eq-eqb number 0 z)) in
       (is, g ∙ ap (λ x. pick (eqb x.number 0) (sets out 0 whole) out) is)
 
-  -- no more is written than there is room for
-  pub moved_short : (w : Written) → w ≡ moved number whole out → w.length ≤ length out
-  unfolding moved
-  moved_short w e = rw e (by (eqb number 0) (leb (length whole) (length out)) (leb-true (length whole) (length out)))
-    where
-      by : (a b : Bool) → (b ≡ true → length whole ≤ length out)
-          → (pick {A = Written} a (pick b (record { number = 0; length = length whole }) (record { number = 26; length = 0 })) (record { number = number; length = 0 })).length ≤ length out
-      by true true r = unfold pick in r refl
-      by true false r = unfold pick in omega arith
-      by false b r = unfold pick in omega arith
-
   -- with room, the call answers the whole text, and it stands at the start of the buffer
   module _ (z : number ≡ 0) (room : length whole ≤ length out) where
     pub moved_is : moved number whole out ≡ record { number = 0; length = length whole }
@@ -267,6 +242,15 @@ module _ (number : ℕ) (whole out : List ℕ) where
     moved_front =
         let stored : pick (eqb (moved number whole out).number 0) (sets out 0 whole) out ≡ sets out 0 whole = pick_true _ _ _ (eq-eqb _ 0 (ap (λ w. w.number) moved_is)) in
         ap (take (length whole)) (stored ∙ sets-eq whole out 0 (rw zero-add room)) ∙ take_at whole _ (length whole) refl
+
+-- the buffer stays as long as it is
+pub moved_long : (number : ℕ) (whole out : List ℕ) → length (moved_text number whole out) ≡ length out
+unfolding moved_text
+moved_long number whole out = by (eqb (moved number whole out).number 0)
+  where
+    by : (b : Bool) → length (pick b (sets out 0 whole) out) ≡ length out
+    by true = unfold pick in length-sets out 0 whole
+    by false = unfold pick in refl
 
 -- a call that is not refused had room
 module _ (number : ℕ) (whole out : List ℕ) (z : (moved number whole out).number ≡ 0) where

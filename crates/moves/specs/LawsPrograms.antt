@@ -1,26 +1,28 @@
 -- Laws of the programs newsheet and oldsheet: their text from what the code's parts answer, and how long it is at most.
-use Rattle.std.specs.Prelude.{ℕ, ◌≤◌, ◌≡◌, refl, Bool, true, false, ◌&&◌, List, leb, eqb, replicate}
-use Rattle.std.proofs.Common.{arith, ◌∙◌, eq-eqb, ne_eqb, leb-true}
+use Rattle.std.specs.Prelude.{ℕ, ◌≤◌, ◌≡◌, refl, true, ◌&&◌, List, Result, Ok, Err, IfOk, leb, eqb}
+use Rattle.std.proofs.Common.{arith, ◌∙◌, ne_eqb, leb-true}
 use Rattle.std.proofs.Math.Path.{sym, ap}
 use Rattle.std.proofs.Math.ListN.{length, take}
-use Rattle.std.proofs.lemmas.List.{length-replicate}
-use Rattle.words.specs.Choice.{pick, unless}
-use Rattle.words.specs.LawsChoice.{pick_true, pick_false, first_holds, second_holds}
+use Rattle.words.specs.Choice.{unless}
+use Rattle.words.specs.LawsChoice.{pick_false, first_holds, second_holds}
 use Rattle.words.specs.LawsTests.{by_eq}
 use Rattle.table.specs.Table.{name_ok, all_printable}
 use Rattle.sheet.specs.Sheet.{body_length}
-use Rattle.sheetwrite.specs.declared.Written.{Written}
-use Rattle.sheetwrite.specs.Write.{sheet_length, new_length}
+use Rattle.sheetwrite.specs.Write.{Written, written_told, sheet_length, new_length}
+use Rattle.refusal.specs.declared.Refusal.{Refusal}
+use Rattle.refusal.specs.Refusal.{number_of, number_in}
+use Rattle.moves.specs.declared.sheets.Form.{Form}
+use Rattle.moves.specs.declared.sheets.Form.TheVariants.{New, Old}
 use Rattle.sheetwrite.specs.LawsWrite.{length_with, length_new_with}
 use Rattle.print.specs.Print.{refused_text}
 use Rattle.print.specs.LawsLines.{either_short}
-use Rattle.board.specs.Open.{most_program, record_of, name_of, open_number, board_number}
-use Rattle.board.specs.LawsOpen.{opened_served, opened_named, served_most}
-use Rattle.board.specs.LawsBoard.{board_refused, board_found, record_there}
+use Rattle.board.specs.Open.{most_program, record_of, name_of, find_number, open_number, board_number}
+use Rattle.board.specs.LawsOpen.{open_finds, opened_served, opened_named, served_most}
+use Rattle.board.specs.LawsBoard.{board_found, record_there, Holds, refusal_text, answer_text}
 use Rattle.moves.specs.Move.{move_number, new_of, old_of, moved, moved_text}
 use Rattle.moves.specs.Programs.{newsheet_text, oldsheet_text}
 use Rattle.moves.specs.LawsWords.{form_of}
-use Rattle.moves.specs.LawsMove.{found_number, lifted_is, move_found, moved_is, moved_front}
+use Rattle.moves.specs.LawsMove.{move_found, moved_is, moved_front, moved_long}
 
 -- ---- how long the two texts are
 
@@ -44,70 +46,67 @@ module _ (table sheet : List ℕ) (z : open_number table sheet ≡ 0) where
   old_short = let few : (record_of table sheet).words ≤ most_program = most in rw length_with (omega arith)
 
 -- either of them
-pub form_short : (new : Bool) (table sheet : List ℕ) → open_number table sheet ≡ 0 → length (form_of new table sheet) ≤ 46157
-unfolding form_of pick
-form_short true table sheet z = new_short table sheet z
-form_short false table sheet z = let h : length (old_of table sheet) ≤ 46135 = old_short table sheet z in omega arith
+pub form_short : (form : Form) (table sheet : List ℕ) → open_number table sheet ≡ 0 → length (form_of form table sheet) ≤ 46157
+form_short New table sheet z = new_short table sheet z
+form_short Old table sheet z = let h : length (old_of table sheet) ≤ 46135 = old_short table sheet z in omega arith
 
 -- ---- a program that prints a moved sheet
-
-refused_number : (number : ℕ) (whole out : List ℕ) → (number ≡ 0 → ⊥) → (moved number whole out).number ≡ number
-unfolding moved
-refused_number number whole out n = ap (λ (x : Written). x.number) (pick_false (eqb number 0) _ _ (ne_eqb number 0 n))
 
 -- its text
 unfoldable pub prints_moved : (table sheet whole : List ℕ) → List ℕ
 prints_moved table sheet whole = unless (eqb (board_number table sheet) 0) (refused_text (board_number table sheet) 0 0) whole
 
-pub newsheet_is : (table sheet : List ℕ) → prints_moved table sheet (form_of true table sheet) ≡ newsheet_text table sheet
-unfolding prints_moved newsheet_text form_of pick
+pub newsheet_is : (table sheet : List ℕ) → prints_moved table sheet (form_of New table sheet) ≡ newsheet_text table sheet
+unfolding prints_moved newsheet_text
 newsheet_is table sheet = refl
 
-pub oldsheet_is : (table sheet : List ℕ) → prints_moved table sheet (form_of false table sheet) ≡ oldsheet_text table sheet
-unfolding prints_moved oldsheet_text form_of pick
+pub oldsheet_is : (table sheet : List ℕ) → prints_moved table sheet (form_of Old table sheet) ≡ oldsheet_text table sheet
+unfolding prints_moved oldsheet_text
 oldsheet_is table sheet = refl
 
-module _ (table sheet whole : List ℕ) (number : ℕ) (e : number ≡ open_number table sheet) where
-  told : (n : ℕ) → n ≡ board_number table sheet → (n ≡ 0 → ⊥) → refused_text n 0 0 ≡ prints_moved table sheet whole
+module _ (table sheet whole : List ℕ) where
+  pub moved_told : (e : Refusal) → number_of e ≡ board_number table sheet → refused_text (number_of e) 0 0 ≡ prints_moved table sheet whole
   unfolding prints_moved
-  told n is h = ap (λ k. refused_text k 0 0) is ∙ sym (pick_false _ _ _ (ne_eqb (board_number table sheet) 0 (λ z. h (is ∙ z))))
+  moved_told e p = refusal_text (board_number table sheet) whole e p
 
-  -- the record is refused
-  pub moved_unopened : (number ≡ 0 → ⊥) → refused_text number 0 0 ≡ prints_moved table sheet whole
-  moved_unopened n = told number (e ∙ sym (board_refused table sheet (λ z. n (e ∙ z)))) n
+  pub moved_all : 0 ≡ board_number table sheet → (n : ℕ) (out : List ℕ) → Holds whole n out → take n out ≡ prints_moved table sheet whole
+  unfolding prints_moved
+  moved_all z n out h = h.whole ∙ answer_text (board_number table sheet) whole _ z
 
-  -- or the move is, under a record that the programs serve
-  module _ (z : number ≡ 0) (limit : ℕ) (short : length whole ≤ limit) (w : Written) (is : w ≡ moved (move_number table sheet) whole (replicate limit 0)) where
-    opened : open_number table sheet ≡ 0
-    opened = sym e ∙ z
+-- what a move answers of a board that the programs serve, in a buffer that has room
+module _ (form : Form) (table sheet : List ℕ) (z : 0 ≡ open_number table sheet) (out : List ℕ) (long : length out ≡ 46157) (r : Result ℕ Refusal)
+    (is : written_told r ≡ moved (move_number table sheet) (form_of form table sheet) out) where
+  found : find_number table sheet ≡ 0
+  found = open_finds table sheet (sym z)
 
-    found : found_number table sheet ≡ 0
-    found = sym (lifted_is table sheet) ∙ (ap (λ n. pick (eqb n 17) 0 n) opened ∙ (unfold pick in refl))
+  same : move_number table sheet ≡ board_number table sheet
+  same = move_found table sheet found ∙ sym (board_found table sheet (sym z))
 
-    same : move_number table sheet ≡ board_number table sheet
-    same = move_found table sheet found ∙ sym (board_found table sheet opened)
+  room : length (form_of form table sheet) ≤ length out
+  room = rw long (form_short form table sheet (sym z))
 
-    room : length whole ≤ length (replicate {A = ℕ} limit 0)
-    room = rw (length-replicate {A = ℕ} limit 0) short
+  refused_number : (n : ℕ) (whole : List ℕ) → (n ≡ 0 → ⊥) → (moved n whole out).number ≡ n
+  unfolding moved
+  refused_number n whole h = ap (λ (x : Written). x.number) (pick_false (eqb n 0) _ _ (ne_eqb n 0 h))
 
-    number_is : w.number ≡ move_number table sheet
-    number_is = ap (λ x. x.number) is ∙ by_eq (move_number table sheet) 0
-        (λ y. ap (λ x. x.number) (moved_is (move_number table sheet) whole (replicate limit 0) y room) ∙ sym y)
-        (λ n. refused_number (move_number table sheet) whole (replicate limit 0) n)
+  pub served_number : number_in r ≡ board_number table sheet
+  served_number = ap (λ x. x.number) is ∙ (by_eq (move_number table sheet) 0
+      (λ y. ap (λ x. x.number) (moved_is (move_number table sheet) (form_of form table sheet) out y room) ∙ sym y)
+      (λ n. refused_number (move_number table sheet) (form_of form table sheet) n) ∙ same)
 
-    pub moved_told : (w.number ≡ 0 → ⊥) → refused_text w.number 0 0 ≡ prints_moved table sheet whole
-    moved_told n = told w.number (number_is ∙ same) n
-
-    module _ (y : w.number ≡ 0) (text : List ℕ) (f : text ≡ moved_text (move_number table sheet) whole (replicate limit 0)) where
-      zero : move_number table sheet ≡ 0
-      zero = sym number_is ∙ y
-
-      pub moved_all : take w.length text ≡ prints_moved table sheet whole
-      unfolding prints_moved
-      moved_all =
-          (λ i. take ((ap (λ x. x.length) (is ∙ moved_is (move_number table sheet) whole (replicate limit 0) zero room)) i) (f i))
-          ∙ (moved_front (move_number table sheet) whole (replicate limit 0) zero room
-          ∙ sym (pick_true _ _ _ (eq-eqb (board_number table sheet) 0 (sym same ∙ zero))))
+  pub served_text : (after : List ℕ) → after ≡ moved_text (move_number table sheet) (form_of form table sheet) out → IfOk r (λ n. Holds (form_of form table sheet) n after)
+  served_text after f = by r is served_number
+    where
+      by : (a : Result ℕ Refusal) → written_told a ≡ moved (move_number table sheet) (form_of form table sheet) out → number_in a ≡ board_number table sheet → IfOk a (λ n. Holds (form_of form table sheet) n after)
+      by (Err e) p q = tt
+      by (Ok n) p q =
+          let zero : move_number table sheet ≡ 0 = same ∙ sym q in
+          let count : n ≡ length (form_of form table sheet) = ap (λ x. x.length) (p ∙ moved_is (move_number table sheet) (form_of form table sheet) out zero room) in
+          let stays : length after ≡ length out = ap length f ∙ moved_long (move_number table sheet) (form_of form table sheet) out in
+          record {
+            within = rw (count, stays) room;
+            whole = (λ i. take (count i) (f i)) ∙ moved_front (move_number table sheet) (form_of form table sheet) out zero room;
+          }
 
 -- ---- their texts are no longer
 

@@ -6,7 +6,7 @@ use Rattle.table.specs.Table.{table_ok, table_lines, has_id}
 use Rattle.judge.specs.Checksum.{checksum_of}
 use Rattle.sheet.specs.FirstLine.{first_line}
 use Rattle.sheet.specs.Sheet.{sheet_with, new_with, sheet_number}
-use Rattle.sheetwrite.specs.declared.Written.{Written}
+use Rattle.sheetwrite.specs.Write.{Written}
 use Rattle.board.specs.Open.{record_of, name_of, board_reading}
 
 -- 15, 14 for line 1, 16; and then 14 for the rest, 18, 19

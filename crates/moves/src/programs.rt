@@ -1,12 +1,16 @@
 // The programs newsheet and oldsheet.
-ghost use Rattle.std.specs.Prelude.{◌≤◌};
+ghost use Rattle.std.specs.Prelude.{◌≡◌, ◌≤◌, IfOk, length};
+ghost use Rattle.refusal.specs.Refusal.{number_in};
 ghost use Rattle.print.specs.Print.{Prints};
+ghost use Rattle.board.specs.Open.{board_number};
+ghost use Rattle.board.specs.LawsBoard.{Holds};
 ghost use Rattle.moves.specs.Programs.{newsheet_text, oldsheet_text};
 ghost use Rattle.moves.specs.LawsWords.{form_of};
 ghost use Rattle.moves.specs.LawsPrograms.{prints_moved};
 
-use crate::sheets::move_to;
+use crate::sheets::{Form, move_to};
 use board::MOST_PROGRAM;
+use refusal::Refusal;
 
 // The longest sheet of a board that the programs serve: in the new form, with a name of 16 characters.
 const MOST_SHEET: usize = 27 + 45 * ((MOST_PROGRAM as usize) / 8) + 50;
@@ -15,29 +19,35 @@ const MOST_SHEET: usize = 27 + 45 * ((MOST_PROGRAM as usize) / 8) + 50;
 pub fn newsheet(table: &[u8], sheet: &[u8], out: &mut [u8]) -> usize
     ensures { (Prints (newsheet_text table.now sheet.now) out.old result out.new) × (result ≤ 46157) }
 {
-    print_moved(true, table, sheet, out)
+    print_moved(Form::New, table, sheet, out)
 }
 
 // Prints a board's sheet in the old form as far as there is room, and answers the length of the whole text.
 pub fn oldsheet(table: &[u8], sheet: &[u8], out: &mut [u8]) -> usize
     ensures { (Prints (oldsheet_text table.now sheet.now) out.old result out.new) × (result ≤ 46135) }
 {
-    print_moved(false, table, sheet, out)
+    print_moved(Form::Old, table, sheet, out)
 }
 
-// Prints a board's sheet in the new form or in the old one. A board that is too large for the programs is refused before the sheet is read.
-fn print_moved(new: bool, table: &[u8], sheet: &[u8], out: &mut [u8]) -> usize
-    ensures { Prints (prints_moved table.now sheet.now (form_of new table.now sheet.now)) out.old result out.new }
+// Prints a board's sheet in a form.
+#[tactic(auto, using(crate::specs::LawsPrograms::moved_told, crate::specs::LawsPrograms::moved_all))]
+fn print_moved(form: Form, table: &[u8], sheet: &[u8], out: &mut [u8]) -> usize
+    ensures { Prints (prints_moved table.now sheet.now (form_of form table.now sheet.now)) out.old result out.new }
 {
-    let opened = board::open_record(table, sheet);
-    if opened.number != 0 {
-        return print::refusal(out, opened.number, 0, 0);
-    }
     let mut whole = [0u8; MOST_SHEET];
-    let moved = move_to(new, table, sheet, &mut whole);
-    if moved.number != 0 {
-        return print::refusal(out, moved.number, 0, 0);
+    match move_served(form, table, sheet, &mut whole) {
+        Ok(length) => print::text(out, &whole[..length]),
+        Err(refusal) => print::refusal(out, refusal.number(), 0, 0),
     }
-    let length = moved.length;
-    print::text(out, &whole[..length])
+}
+
+// Writes a board's sheet in a form. A board that is too large for the programs is refused before its sheet is read.
+#[tactic(auto, using(board::specs::LawsBoard::board_unopened, crate::specs::LawsPrograms::served_number, crate::specs::LawsPrograms::served_text))]
+fn move_served(form: Form, table: &[u8], sheet: &[u8], out: &mut [u8]) -> Result<usize, Refusal>
+    requires { length out.old ≡ 46157 }
+    ensures number { number_in result ≡ board_number table.now sheet.now }
+    ensures text { IfOk result (λ n. Holds (form_of form table.now sheet.now) n out.new) }
+{
+    board::open_record(table, sheet)?;
+    move_to(form, table, sheet, out)
 }

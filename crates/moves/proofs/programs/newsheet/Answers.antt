@@ -1,4 +1,4 @@
--- The form by its flag.
+-- The sheet in this form.
 use Rattle.print.specs.LawsPrint.{prints_as, printed}
 use Rattle.moves.specs.LawsPrograms.{newsheet_is, newsheet_short}
 use Rattle.moves.proofs.programs.newsheet.Goals as goal

@@ -1,4 +1,4 @@
--- The form by its flag.
+-- The sheet in this form.
 use Rattle.print.specs.LawsPrint.{prints_as, printed}
 use Rattle.moves.specs.LawsPrograms.{oldsheet_is, oldsheet_short}
 use Rattle.moves.proofs.programs.oldsheet.Goals as goal

@@ -1,46 +1,66 @@
 -- A sheet that is refused, or its words written with line 1's ID.
-use mathlib.Core.Path.{sym}
-use native.Mathlib.Omega.{arith}
-use Rattle.board.specs.LawsOpen.{name_cut, name_inside}
-use Rattle.moves.specs.LawsMove.{moved_refused}
-use Rattle.moves.specs.LawsWords.{form_new, form_old, moved_as, words_within, words_long, new_moved, old_moved}
-use borrow.Author.Rules.{rules}
+use Rattle.std.proofs.Common.{ℕ, ◌+◌, ◌++◌, refl, sym, ap, arith, length-take-le, drop, replicate}
+use Rattle.std.proofs.lemmas.List.{length-replicate}
+use Rattle.std.proofs.lemmas.Result.{err_from_is_err_and}
+use Rattle.device.specs.Memory.{reading_tail}
+use Rattle.sheet.specs.LawsRead.{longest_reading}
+use Rattle.moves.specs.LawsWords.{move_unfound, move_read_again, move_told, few_words, read_is, words_within, words_long, old_moved, new_moved}
 use Rattle.moves.proofs.sheets.move_to.Goals as goal
 
-pub returns-then-opened-ne0 : goal.returns-then-opened-ne0
-returns-then-opened-ne0 c = moved_refused _ _ _ _ c.open_sheet-opened.ensures.0 (λ z. omega (arith, z, c.if-opened-ne0.true))
+pub returns-in_err-found-clause-buffer : goal.returns-in_err-found-clause-buffer
+returns-in_err-found-clause-buffer c = (move_unfound _ _ _ _ _ c.in_err-found.ensures.number).1
 
-pub overflow_add-end : goal.overflow_add-end
-overflow_add-end c = let h = name_inside _ c.args.text.now _ _ c.open_sheet-opened.ensures.3 c.open_sheet-opened.ensures.4 in search rules
+pub returns-in_err-id-clause-answer : goal.returns-in_err-id-clause-answer
+returns-in_err-id-clause-answer c = absurd (move_read_again c.args.table.now _ c.args.out.now c.args.out.now _ c.in_ok-found.ensures.number c.in_err-id.ensures)
 
-pub slice_bounds-write_new_sheet-end : goal.slice_bounds-write_new_sheet-end
-slice_bounds-write_new_sheet-end c = omega (arith, name_inside _ c.args.text.now _ _ c.open_sheet-opened.ensures.3 c.open_sheet-opened.ensures.4)
+pub returns-in_err-id-clause-buffer : goal.returns-in_err-id-clause-buffer
+returns-in_err-id-clause-buffer c = absurd (move_read_again c.args.table.now _ c.args.out.now c.args.out.now _ c.in_ok-found.ensures.number c.in_err-id.ensures)
 
 pub slice_bounds-words-end : goal.slice_bounds-words-end
-slice_bounds-words-end c = words_within _ _ _ c.open_sheet-opened.ensures.0 c.if-opened-ne0.false _
-    c.open_sheet-opened.ensures.1 _ c.open_sheet-opened.ensures.2
+slice_bounds-words-end c = few_words _ _ c.in_ok-found.ensures.number _ c.in_ok-found.ensures.found _ c.name-name.ensures
 
-pub slice_bounds-write_new_sheet-end-then-new : goal.slice_bounds-write_new_sheet-end-then-new
-slice_bounds-write_new_sheet-end-then-new c = sym (words_long _ _ _ c.open_sheet-opened.ensures.0 c.if-opened-ne0.false _
-    c.open_sheet-opened.ensures.1 _ c.open_sheet-opened.ensures.2)
+pub slice_bounds-read_sheet-end : goal.slice_bounds-read_sheet-end
+slice_bounds-read_sheet-end c = sym (length-take-le _ _ (omega (arith, length-replicate {A = ℕ} longest_reading 0, few_words _ _ c.in_ok-found.ensures.number _ c.in_ok-found.ensures.found _ c.name-name.ensures)))
 
-pub returns-then-new : goal.returns-then-new
-returns-then-new c = moved_as _ _ _ _ _ _ (form_new _ _ _ c.if-new.true) (new_moved _ _ _ c.open_sheet-opened.ensures.0
-    c.if-opened-ne0.false _ c.open_sheet-opened.ensures.1 _
-    c.open_sheet-opened.ensures.2 _ c.with_id-named.ensures _ _
-    (name_cut _ _ _ _ c.open_sheet-opened.ensures.3 c.open_sheet-opened.ensures.4) _
-    c.write_new_sheet.ensures.0 _ c.write_new_sheet.ensures.1)
+pub returns-in_err-read_sheet-clause-answer : goal.returns-in_err-read_sheet-clause-answer
+returns-in_err-read_sheet-clause-answer c = let p = err_from_is_err_and c.from_residual-in_err-read_sheet.result c.from_residual-in_err-read_sheet.ensures.1 in
+    rw (p.1, p.2) (move_told _ _ _ _ _ (read_is _ _ c.in_ok-found.ensures.number _ c.in_ok-found.ensures.found _ c.name-name.ensures _ (length-replicate {A = ℕ} longest_reading 0) _ c.in_err-read_sheet.ensures.0)).0
 
-pub slice_bounds-words-end-2 : goal.slice_bounds-words-end-2
-slice_bounds-words-end-2 c = words_within _ _ _ c.open_sheet-opened.ensures.0 c.if-opened-ne0.false _
-    c.open_sheet-opened.ensures.1 _ c.open_sheet-opened.ensures.2
+pub returns-in_err-read_sheet-clause-buffer : goal.returns-in_err-read_sheet-clause-buffer
+returns-in_err-read_sheet-clause-buffer c = (move_told _ _ _ _ _ (read_is _ _ c.in_ok-found.ensures.number _ c.in_ok-found.ensures.found _ c.name-name.ensures _ (length-replicate {A = ℕ} longest_reading 0) _ c.in_err-read_sheet.ensures.0)).1
+
+pub slice_bounds-words-end-in-New : goal.slice_bounds-words-end-in-New
+slice_bounds-words-end-in-New c = words_within _ _ c.in_ok-found.ensures.number _ c.in_ok-found.ensures.found _ c.name-name.ensures _ (length-replicate {A = ℕ} longest_reading 0) _ c.in_ok-read_sheet.ensures.0 refl _
+    (ap (λ x. x ++ drop (c.in_ok-found.found.device.words + reading_tail) (replicate longest_reading 0)) c.in_ok-read_sheet.ensures.1)
+
+pub slice_bounds-words-end-in-Old : goal.slice_bounds-words-end-in-Old
+slice_bounds-words-end-in-Old c = words_within _ _ c.in_ok-found.ensures.number _ c.in_ok-found.ensures.found _ c.name-name.ensures _ (length-replicate {A = ℕ} longest_reading 0) _ c.in_ok-read_sheet.ensures.0 refl _
+    (ap (λ x. x ++ drop (c.in_ok-found.found.device.words + reading_tail) (replicate longest_reading 0)) c.in_ok-read_sheet.ensures.1)
 
 pub slice_bounds-write_sheet-end : goal.slice_bounds-write_sheet-end
-slice_bounds-write_sheet-end c = sym (words_long _ _ _ c.open_sheet-opened.ensures.0 c.if-opened-ne0.false _
-    c.open_sheet-opened.ensures.1 _ c.open_sheet-opened.ensures.2)
+slice_bounds-write_sheet-end c = sym (words_long _ _ c.in_ok-found.ensures.number _ c.in_ok-found.ensures.found _ c.name-name.ensures _ (length-replicate {A = ℕ} longest_reading 0) _ c.in_ok-read_sheet.ensures.0 refl _
+    (ap (λ x. x ++ drop (c.in_ok-found.found.device.words + reading_tail) (replicate longest_reading 0)) c.in_ok-read_sheet.ensures.1))
 
-pub returns : goal.returns
-returns c = moved_as _ _ _ _ _ _ (form_old _ _ _ c.if-new.false) (old_moved _ _ _ c.open_sheet-opened.ensures.0
-    c.if-opened-ne0.false _ c.open_sheet-opened.ensures.1 _
-    c.open_sheet-opened.ensures.2 _ c.with_id-named.ensures _ _
-    c.write_sheet.ensures.0 _ c.write_sheet.ensures.1)
+pub returns-in-Old-clause-answer : goal.returns-in-Old-clause-answer
+returns-in-Old-clause-answer c = rw c.in-Old.is (old_moved _ _ c.in_ok-found.ensures.number _ c.in_ok-found.ensures.found _ c.name-name.ensures _ (length-replicate {A = ℕ} longest_reading 0) _ c.in_ok-read_sheet.ensures.0 refl _
+    (ap (λ x. x ++ drop (c.in_ok-found.found.device.words + reading_tail) (replicate longest_reading 0)) c.in_ok-read_sheet.ensures.1)
+    _ c.in_ok-id.ensures _ _ c.write_sheet.ensures.0 _ c.write_sheet.ensures.1).0
+
+pub returns-in-Old-clause-buffer : goal.returns-in-Old-clause-buffer
+returns-in-Old-clause-buffer c = rw c.in-Old.is (old_moved _ _ c.in_ok-found.ensures.number _ c.in_ok-found.ensures.found _ c.name-name.ensures _ (length-replicate {A = ℕ} longest_reading 0) _ c.in_ok-read_sheet.ensures.0 refl _
+    (ap (λ x. x ++ drop (c.in_ok-found.found.device.words + reading_tail) (replicate longest_reading 0)) c.in_ok-read_sheet.ensures.1)
+    _ c.in_ok-id.ensures _ _ c.write_sheet.ensures.0 _ c.write_sheet.ensures.1).1
+
+pub slice_bounds-write_new_sheet-end : goal.slice_bounds-write_new_sheet-end
+slice_bounds-write_new_sheet-end c = sym (words_long _ _ c.in_ok-found.ensures.number _ c.in_ok-found.ensures.found _ c.name-name.ensures _ (length-replicate {A = ℕ} longest_reading 0) _ c.in_ok-read_sheet.ensures.0 refl _
+    (ap (λ x. x ++ drop (c.in_ok-found.found.device.words + reading_tail) (replicate longest_reading 0)) c.in_ok-read_sheet.ensures.1))
+
+pub returns-in-New-clause-answer : goal.returns-in-New-clause-answer
+returns-in-New-clause-answer c = rw c.in-New.is (new_moved _ _ c.in_ok-found.ensures.number _ c.in_ok-found.ensures.found _ c.name-name.ensures _ (length-replicate {A = ℕ} longest_reading 0) _ c.in_ok-read_sheet.ensures.0 refl _
+    (ap (λ x. x ++ drop (c.in_ok-found.found.device.words + reading_tail) (replicate longest_reading 0)) c.in_ok-read_sheet.ensures.1)
+    _ c.in_ok-id.ensures _ _ c.write_new_sheet.ensures.0 _ c.write_new_sheet.ensures.1).0
+
+pub returns-in-New-clause-buffer : goal.returns-in-New-clause-buffer
+returns-in-New-clause-buffer c = rw c.in-New.is (new_moved _ _ c.in_ok-found.ensures.number _ c.in_ok-found.ensures.found _ c.name-name.ensures _ (length-replicate {A = ℕ} longest_reading 0) _ c.in_ok-read_sheet.ensures.0 refl _
+    (ap (λ x. x ++ drop (c.in_ok-found.found.device.words + reading_tail) (replicate longest_reading 0)) c.in_ok-read_sheet.ensures.1)
+    _ c.in_ok-id.ensures _ _ c.write_new_sheet.ensures.0 _ c.write_new_sheet.ensures.1).1
