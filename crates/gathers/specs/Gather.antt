@@ -30,7 +30,10 @@ gather_number table sheet answers =
     (unless (answers_ok (record_of table sheet).words answers) 21
     0)
 
--- line 1 stays the board's
+-- the sheet of the words: line 1 stays the board's
+abbrev pub gathered : (table sheet answers : List ℕ) → List ℕ
+gathered table sheet answers = sheet_with (first_line sheet).id (record_of table sheet) (answers_in (record_of table sheet).words answers)
+
 unfoldable pub gather_text : (table sheet answers : List ℕ) → List ℕ
 gather_text table sheet answers =
     unless (eqb (gather_number table sheet answers) 0) (refused_text (gather_number table sheet answers) 0 0)

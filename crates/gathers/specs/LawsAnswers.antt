@@ -1,6 +1,6 @@
 -- Laws of the words that a read-back answered: their lines, place by place, are the test of the whole text; and what is printed of a reading is read as it.
-use Rattle.std.specs.Prelude.{ℕ, zero, suc, ◌+◌, ◌*◌, ◌≤◌, ◌<◌, ◌≡◌, refl, Bool, false, ◌&&◌, List, [], ◌∷◌, length, get_or}
-use Rattle.std.proofs.Common.{le_antisymm, le_of_suc-le-suc, not-suc-le-zero, zero-add, arith, ap, ◌∙◌, length-append, eq-eqb, ne_eqb, eqb-true}
+use Rattle.std.specs.Prelude.{ℕ, zero, suc, ◌+◌, ◌*◌, ◌≤◌, ◌<◌, ◌≡◌, refl, Bool, false, ◌&&◌, Some, None, ltb, List, [], ◌∷◌, length, get_or}
+use Rattle.std.proofs.Common.{le_of_suc-le-suc, not-suc-le-zero, zero-add, arith, ap, ◌∙◌, length-append, eq-eqb, ne_eqb, eqb-true}
 use Rattle.std.proofs.Math.Path.{sym}
 use Rattle.std.proofs.Math.Bool.{true}
 use Rattle.std.proofs.Math.Dec.{eqb}
@@ -9,6 +9,9 @@ use Rattle.words.specs.Lists.{every}
 use Rattle.words.specs.LawsChoice.{both, first_holds, second_holds, first_fails, same_test}
 use Rattle.words.specs.LawsLists.{length_build, get_or_build, built, every_none, every_more, every_no, every_at, every_all}
 use Rattle.words.specs.LawsWord.{is_word_lem, not_word, word_lt, words_of_lem}
+use Rattle.words.specs.Choice.{below}
+use borrow.Author.Tests.{le-ltb}
+use Rattle.table.specs.LawsLine.{below_none, below_some}
 use Rattle.numerals.specs.Text.{lf}
 use Rattle.numerals.specs.Hex.{capital_of, word_by, word_text}
 use Rattle.numerals.specs.LawsHex.{length_word_text}
@@ -28,14 +31,25 @@ answer_ok text at = is_word (word_by capital_of text at) && eqb (get_or text (at
 unfoldable pub answers_to : (text : List ℕ) (count : ℕ) → Bool
 answers_to text count = every count (λ k. answer_ok text (5 * k))
 
+-- what the code reads of a line
 module _ (t : List ℕ) (at : ℕ) where
-  pub line_no_word : 0x4000 ≤ word_by capital_of t at → false ≡ answer_ok t at
+  no_word : 0x4000 ≤ word_by capital_of t at → false ≡ answer_ok t at
   unfolding answer_ok
-  line_no_word h = sym (first_fails (is_word (word_by capital_of t at)) _ (not_word (word_by capital_of t at) h))
+  no_word h = sym (first_fails (is_word (word_by capital_of t at)) _ (not_word (word_by capital_of t at) h))
 
-  pub line_end : word_by capital_of t at < 0x4000 → eqb (get_or t (at + 4) 0) lf ≡ answer_ok t at
-  unfolding answer_ok
-  line_end h = rw (is_word_lem (word_by capital_of t at) h)
+  pub line_unread : None ≡ below 65536 (word_by capital_of t at) → false ≡ answer_ok t at
+  line_unread e = let h : 65536 ≤ word_by capital_of t at = below_none 65536 _ (sym e) in no_word (omega arith)
+
+  module _ (word : ℕ) (e : Some word ≡ below 65536 (word_by capital_of t at)) where
+    read_is : word_by capital_of t at ≡ word
+    read_is = (below_some 65536 _ word (sym e)).1
+
+    pub line_no_word : 0x4000 ≤ word → ltb word 0x4000 ≡ answer_ok t at
+    line_no_word h = le-ltb word 0x4000 h ∙ no_word (omega (arith, read_is))
+
+    pub line_end : word < 0x4000 → eqb (get_or t (at + 4) 0) lf ≡ answer_ok t at
+    unfolding answer_ok
+    line_end h = rw (is_word_lem (word_by capital_of t at) (omega (arith, read_is)))
 
 module _ (t : List ℕ) where
   pub lines_none : answers_to t 0 ≡ true
@@ -50,9 +64,6 @@ module _ (t : List ℕ) where
     pub lines_no : (count : ℕ) → k < count → answer_ok t (5 * k) ≡ false → false ≡ answers_to t count
     unfolding answers_to
     lines_no count h f = sym (every_no count (λ j. answer_ok t (5 * j)) k h f)
-
-    pub lines_end : (count : ℕ) → count ≤ k → k ≤ count → answers_to t k ≡ true → true ≡ answers_to t count
-    lines_end count p q e = sym (rw (le_antisymm q p) at e)
 
 -- ---- the lines of a list of words, each at its place
 

@@ -6,47 +6,45 @@ ghost use Rattle.gathers.specs.Gather.{answers_in, answers_ok};
 ghost use Rattle.gathers.specs.LawsAnswers.{answer_ok, answers_to};
 
 use device::READING_TAIL;
+use numerals::hex;
 use words::WORD_LIMIT;
 
 const LF: u8 = 10;
 
 // Whether a text is just the lines of a whole reading.
+#[tactic(auto, using(crate::specs::LawsAnswers::answers_long, crate::specs::LawsAnswers::answers_lines))]
 pub(crate) fn lines_ok(program: usize, text: &[u8]) -> bool
     requires { program ≤ most_program }
     ensures { result ≡ answers_ok program text.now }
 {
     let count = program + READING_TAIL;
-    if text.len() != 5 * count {
-        return false;
-    }
-    each_ok(text, count)
+    text.len() == 5 * count && each_ok(text, count)
 }
 
 // Whether so many lines stand at the start of a text.
+#[tactic(auto, using(crate::specs::LawsAnswers::lines_none, crate::specs::LawsAnswers::lines_more, crate::specs::LawsAnswers::lines_no))]
 fn each_ok(text: &[u8], count: usize) -> bool
     requires { length text.now ≡ 5 * count }
     ensures { result ≡ answers_to text.now count }
 {
-    let mut k = 0;
-    while k < count {
-        if line_ok(text, 5 * k) {} else {
+    for k in 0..count {
+        if !line_ok(text, 5 * k) {
             return false;
         }
-        k += 1;
     }
     true
 }
 
 // A word and LF.
+#[tactic(auto, using(crate::specs::LawsAnswers::line_unread, crate::specs::LawsAnswers::line_no_word, crate::specs::LawsAnswers::line_end))]
 fn line_ok(text: &[u8], at: usize) -> bool
     requires { at + 5 ≤ length text.now }
     ensures { result ≡ answer_ok text.now at }
 {
-    let word = numerals::hex::capital_word(text, at);
-    if WORD_LIMIT as u32 <= word {
-        return false;
+    match hex::capital_word(text, at) {
+        Some(word) => word < WORD_LIMIT && text[at + 4] == LF,
+        None => false,
     }
-    text[at + 4] == LF
 }
 
 // Stores the words of a text that was judged.
@@ -54,9 +52,7 @@ pub(crate) fn store(program: usize, text: &[u8], buffer: &mut [u16])
     requires { (program ≤ most_program) × (length buffer.old ≡ program + reading_tail) × (reading_ok program (answers_in program text.now) ≡ true) }
     ensures { buffer.new ≡ answers_in program text.now }
 {
-    let mut i = 0;
-    while i < buffer.len() {
-        buffer[i] = numerals::hex::capital_word(text, 5 * i) as u16;
-        i += 1;
+    for (i, word) in buffer.iter_mut().enumerate() {
+        *word = hex::capital_word(text, 5 * i).unwrap();
     }
 }
