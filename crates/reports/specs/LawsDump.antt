@@ -1,15 +1,16 @@
 -- Laws of the program dump: a reading whose three words that are never given are hidden is an image, its text has room, and the programs take it.
-use Rattle.std.specs.Prelude.{ℕ, ◌+◌, ◌*◌, ◌/◌, ◌≤◌, ◌<◌, ◌≡◌, refl, ◌⊎◌, Bool, true, List, ◌++◌, length, get_or, set, take, drop, replicate}
-use Rattle.std.proofs.Common.{add-zero, zero-add, ◌∙◌, inl, inr, take_at}
-use Rattle.std.proofs.Math.Decide.{dec_lt}
+use Rattle.std.specs.Prelude.{Result, Ok, Err, IfOk, ℕ, suc, ◌-◌, ◌+◌, ◌*◌, ◌/◌, ◌≤◌, ◌<◌, ◌≡◌, refl, ◌⊎◌, Bool, true, List, ◌++◌, length, get_or, set, take, drop, replicate}
+use Rattle.std.proofs.Common.{append_assoc, length-take-le, length-drop, add-zero, zero-add, ◌∙◌, inl, inr, take_at}
+use Rattle.std.proofs.Math.Decide.{dec_lt, ℕ_discrete}
 use native.Mathlib.Omega.{arith}
 use Rattle.std.proofs.Math.Path.{sym, ap}
 use Rattle.std.proofs.Math.Bool.{false, not}
-use Rattle.std.proofs.lemmas.List.{length-replicate}
+use Rattle.std.proofs.lemmas.List.{length-set, drop-drop}
 use Rattle.std.proofs.lemmas.List.Edits.{sets, sets-eq}
 use Rattle.std.proofs.Math.Seq.{take-set-lt, length-sets}
-use borrow.Author.Tests.{eq-eqb, le-leb}
-use Rattle.words.specs.Choice.{pick}
+use Rattle.std.proofs.Math.Dec.{eqb}
+use borrow.Author.Tests.{eq-eqb, ne_eqb, le-leb}
+use Rattle.words.specs.Choice.{pick, unless}
 use Rattle.words.specs.Word.{not_given}
 use Rattle.words.specs.Lists.{in_range, overlay}
 use Rattle.words.specs.LawsChoice.{pick_true, pick_false, decided}
@@ -19,13 +20,15 @@ use Rattle.device.specs.Record.{device_up_to, device_ok}
 use Rattle.device.specs.Memory.{reading_tail, ids, cp_word, programmable, entry_ok, image_ok, reading_ok, protected}
 use Rattle.device.specs.LawsRecord.{Rules, rules_lem, words_eighths}
 use Rattle.device.specs.LawsMemory.{programmable_low, programmable_never, programmable_config, programmable_lt, entry_none, entry_given, image_of_lem, reading_each}
-use Rattle.hexwrite.specs.declared.WrittenHex.{WrittenHex}
-use Rattle.hexwrite.specs.Writer.{hex_text, written_hex, written_out, WroteHex}
+use Rattle.refusal.specs.declared.Refusal.{Refusal}
+use Rattle.refusal.specs.Refusal.{number_of, number_in}
+use Rattle.refusal.specs.LawsRefusal.{number_of_positive}
+use Rattle.hexwrite.specs.Writer.{hex_text, written_told, written_hex, written_out, WroteHex}
 use Rattle.print.specs.Print.{refused_text}
 use Rattle.print.specs.LawsLines.{refused_short, either_short}
 use Rattle.board.specs.Open.{most_program, record_of, board_number, board_reading, opened_reading}
 use Rattle.board.specs.LawsOpen.{served_sound, served_most}
-use Rattle.board.specs.LawsBoard.{most_reading, Board, board_opened, board_served, board_told, board_text}
+use Rattle.board.specs.LawsBoard.{most_reading, Board, board_opened, board_served, Holds, refusal_text, answer_text}
 use Rattle.reports.specs.Dump.{image_of, dump_text}
 use Rattle.reports.specs.LawsWhole.{whole_length}
 
@@ -92,10 +95,6 @@ image_never words reading i p q = get_or_build (words + reading_tail) _ i (omega
 
 -- ---- the text of an image, in a buffer that has room for it
 
-pub record Dumped (text : List ℕ) (r : WrittenHex) (out : List ℕ) : Type 0 where
-  pub within : r.length ≤ length out
-  pub whole : take r.length out ≡ text
-
 text_few : (d : Device) → device_up_to most_program d ≡ true → (reading : List ℕ) → reading_ok d.words reading ≡ true → length (hex_text d.words (image_of d.words reading)) ≤ most_dump
 text_few d served reading ok =
     let most : d.words ≤ most_program = served_most d served in
@@ -106,8 +105,9 @@ text_few d served reading ok =
     omega arith
 
 module _ (d : Device) (sound : device_ok d ≡ true) (image : List ℕ) (ok : image_ok d.words image ≡ true) (room_enough : length (hex_text d.words image) ≤ most_dump) where
-  dumped_in : (out : List ℕ) → length out ≡ most_dump → (r : WrittenHex) (out' : List ℕ) → WroteHex d image out r out' → Dumped (hex_text d.words image) r out'
-  dumped_in out long r out' p = record { within = rw (count, stays, long) room_enough; whole = whole }
+  -- the writer answers its length, and it stands at the start of the buffer
+  dumped : (out : List ℕ) → length out ≡ most_dump → (r : Result ℕ Refusal) (after : List ℕ) → WroteHex d image out (written_told r) after → (number_in r ≡ 0) × IfOk r (λ n. Holds (hex_text d.words image) n after)
+  dumped out long r after p = by r p.answer
     where
       text : List ℕ
       text = hex_text d.words image
@@ -118,24 +118,22 @@ module _ (d : Device) (sound : device_ok d ≡ true) (image : List ℕ) (ok : im
       is : written_hex d image out ≡ record { number = 0; length = length text }
       is = unfold written_hex pick in rw (sound, ok, le-leb (length (hex_text d.words image)) (length out) room)
 
-      count : r.length ≡ length text
-      count = ap (λ x. x.length) (p.answer ∙ is)
-
-      stored : out' ≡ sets out 0 text
+      stored : after ≡ sets out 0 text
       stored = p.bytes ∙ (unfold written_out in pick_true _ _ _ (eq-eqb _ 0 (ap (λ x. x.number) is)))
-
-      stays : length out' ≡ length out
-      stays = ap length stored ∙ length-sets out 0 text
 
       placed : sets out 0 text ≡ text ++ drop (0 + length text) out
       placed = sets-eq text out 0 (rw zero-add room)
 
-      whole : take r.length out' ≡ text
-      whole = ap (λ n. take n out') count ∙ (ap (take (length text)) (stored ∙ placed) ∙ take_at text (drop (0 + length text) out) (length text) refl)
-
-  -- a local buffer of the most bytes
-  dumped : (r : WrittenHex) (out : List ℕ) → WroteHex d image (replicate most_dump 0) r out → Dumped (hex_text d.words image) r out
-  dumped r out p = dumped_in (replicate most_dump 0) (length-replicate {A = ℕ} most_dump 0) r out p
+      by : (a : Result ℕ Refusal) → written_told a ≡ written_hex d image out → (number_in a ≡ 0) × IfOk a (λ n. Holds text n after)
+      by (Err e) q = let n : 0 < number_of e = number_of_positive e in absurd (omega (arith, ap (λ x. x.number) (q ∙ is)))
+      by (Ok n) q =
+          let count : n ≡ length text = ap (λ x. x.length) (q ∙ is) in (
+            refl,
+            record {
+              within = rw (count, stored, length-sets out 0 text) room;
+              whole = ap (λ k. take k after) count ∙ (ap (take (length text)) (stored ∙ placed) ∙ take_at text (drop (0 + length text) out) (length text) refl);
+            },
+          )
 
 -- ---- the program
 
@@ -162,32 +160,97 @@ dump_short table sheet =
 pub dump_fits : (table sheet : List ℕ) → length (dump_text table sheet) ≤ 65536
 dump_fits table sheet = let s : length (dump_text table sheet) ≤ most_dump = dump_short table sheet in omega arith
 
-module _ (table sheet : List ℕ) (number : ℕ) (e : number ≡ board_number table sheet) where
-  pub dump_refused : (number ≡ 0 → ⊥) → refused_text number 0 0 ≡ dump_text table sheet
-  unfolding dump_text
-  dump_refused n = board_told table sheet number e (λ k. refused_text k 0 0) _ n
+-- the refusals of a dump: those of the board, and 23
+unfoldable pub dump_number : (table sheet : List ℕ) → ℕ
+dump_number table sheet =
+    unless (eqb (board_number table sheet) 0) (board_number table sheet)
+    (unless (not (protected (record_of table sheet).words (board_reading table sheet))) 23 0)
 
-  module _ (z : number ≡ 0) (d : Device) (reading : List ℕ) (b : Board table sheet d reading) (hidden_words : Bool)
-      (q : hidden_words ≡ protected d.words (take (d.words + reading_tail) reading)) where
-    protected_is : hidden_words ≡ protected (record_of table sheet).words (board_reading table sheet)
-    protected_is = q ∙ (ap (protected d.words) b.front ∙ ap (λ x. protected x.words (board_reading table sheet)) b.record_is)
+-- the HEX text of a board's sheet stands at the start of a buffer
+abbrev pub Dumped : (table sheet : List ℕ) (n : ℕ) (out : List ℕ) → Type 0
+Dumped table sheet n out = Holds (hex_text (record_of table sheet).words (image_of (record_of table sheet).words (board_reading table sheet))) n out
 
-    pub dump_23 : hidden_words ≡ true → refused_text 23 0 0 ≡ dump_text table sheet
-    unfolding dump_text
-    dump_23 t =
-        sym (pick_false _ _ _ (ap not (sym protected_is ∙ t)))
-        ∙ board_text table sheet number e _ (refused_text (board_number table sheet) 0 0) z
+module _ (table sheet : List ℕ) where
+  pub dump_unopened : (e : Refusal) → number_of e ≡ board_number table sheet → number_of e ≡ dump_number table sheet
+  unfolding dump_number
+  dump_unopened e p = p ∙ sym (pick_false _ _ _ (ne_eqb (board_number table sheet) 0 (λ z. let n : 0 < number_of e = number_of_positive e in omega (arith, p ∙ z))))
 
-    -- the writer's answer, and what it leaves in a buffer of the most bytes
-    module _ (f : hidden_words ≡ false) (hides : List ℕ)
-        (h : hides ≡ set (set (set reading (d.words + ids) not_given) (d.words + ids + 1) not_given) (d.words + ids + 2) not_given) where
+  -- its text
+  dump_is : dump_text table sheet
+      ≡ pick (eqb (dump_number table sheet) 0) (hex_text (record_of table sheet).words (image_of (record_of table sheet).words (board_reading table sheet))) (refused_text (dump_number table sheet) 0 0)
+  unfolding dump_text dump_number
+  dump_is = by (board_number table sheet) (ℕ_discrete (board_number table sheet) 0) (not (protected (record_of table sheet).words (board_reading table sheet)))
+    where
+      text : List ℕ
+      text = hex_text (record_of table sheet).words (image_of (record_of table sheet).words (board_reading table sheet))
+
+      away : (n : ℕ) (b : Bool) → eqb n 0 ≡ false → pick (eqb n 0) (pick b text (refused_text 23 0 0)) (refused_text n 0 0)
+          ≡ pick (eqb (pick (eqb n 0) (pick b 0 23) n) 0) text (refused_text (pick (eqb n 0) (pick b 0 23) n) 0 0)
+      away n b e = unfold pick in rw (e, e)
+
+      by : (n : ℕ) → Dec (n ≡ 0) → (b : Bool) → pick (eqb n 0) (pick b text (refused_text 23 0 0)) (refused_text n 0 0)
+          ≡ pick (eqb (pick (eqb n 0) (pick b 0 23) n) 0) text (refused_text (pick (eqb n 0) (pick b 0 23) n) 0 0)
+      by n (yes z) true = unfold pick in rw (eq-eqb n 0 z)
+      by n (yes z) false = unfold pick in rw (eq-eqb n 0 z)
+      by n (no h) b = away n b (ne_eqb n 0 h)
+
+  pub dump_refused : (e : Refusal) → number_of e ≡ dump_number table sheet → refused_text (number_of e) 0 0 ≡ dump_text table sheet
+  dump_refused e p = refusal_text (dump_number table sheet) _ e p ∙ sym dump_is
+
+  pub dump_all : 0 ≡ dump_number table sheet → (n : ℕ) (out : List ℕ) → Dumped table sheet n out → take n out ≡ dump_text table sheet
+  dump_all z n out h = h.whole ∙ (answer_text (dump_number table sheet) _ (refused_text (dump_number table sheet) 0 0) z ∙ sym dump_is)
+
+  module _ (z : 0 ≡ board_number table sheet) (d : Device) (reading : List ℕ) (b : Board table sheet d reading) where
+    protected_is : protected d.words (take (d.words + reading_tail) reading) ≡ protected (record_of table sheet).words (board_reading table sheet)
+    protected_is = ap (protected d.words) b.front ∙ ap (λ x. protected x.words (board_reading table sheet)) b.record_is
+
+    opened : dump_number table sheet ≡ pick (not (protected d.words (take (d.words + reading_tail) reading))) 0 23
+    unfolding dump_number
+    opened = pick_true _ _ _ (eq-eqb (board_number table sheet) 0 (sym z)) ∙ ap (λ b. pick (not b) 0 23) (sym protected_is)
+
+    pub dump_23 : true ≡ protected d.words (take (d.words + reading_tail) reading) → 23 ≡ dump_number table sheet
+    dump_23 t = sym (opened ∙ pick_false _ _ _ (ap not (sym t)))
+
+    pub dump_room : d.words + ids + 3 ≤ length reading
+    dump_room = let w : d.words + reading_tail ≤ length reading = b.within in omega arith
+
+    -- the writer's answer of the image that the three hidden words leave
+    module _ (f : false ≡ protected d.words (take (d.words + reading_tail) reading)) (three hides : List ℕ) (t : three ≡ replicate (length (take (d.words + ids + 3 - (d.words + ids)) (drop (d.words + ids) reading))) not_given)
+        (h : hides ≡ take (d.words + ids) reading ++ (three ++ drop (d.words + ids + 3 - (d.words + ids)) (drop (d.words + ids) reading))) where
+      sets_three : hides ≡ set (set (set reading (d.words + ids) not_given) (d.words + ids + 1) not_given) (d.words + ids + 2) not_given
+      sets_three =
+          h ∙ ((λ i. take (d.words + ids) reading ++ ((t ∙ ap (λ n. replicate n not_given) count) i ++ rest i))
+          ∙ (sym (append_assoc (take (d.words + ids) reading) (replicate 3 not_given) (drop (d.words + ids + 3) reading))
+          ∙ (sym (sets-eq (replicate 3 not_given) reading (d.words + ids) dump_room)
+          ∙ (λ i. set (set (set reading (d.words + ids) not_given) (one i) not_given) (two i) not_given))))
+        where
+          count : length (take (d.words + ids + 3 - (d.words + ids)) (drop (d.words + ids) reading)) ≡ 3
+          count =
+              let room : d.words + ids + 3 ≤ length reading = dump_room in
+              length-take-le (d.words + ids + 3 - (d.words + ids)) (drop (d.words + ids) reading) (rw length-drop (omega arith)) ∙ omega arith
+
+          past : d.words + ids + (d.words + ids + 3 - (d.words + ids)) ≡ d.words + ids + 3
+          past = omega arith
+
+          rest : drop (d.words + ids + 3 - (d.words + ids)) (drop (d.words + ids) reading) ≡ drop (d.words + ids + 3) reading
+          rest = drop-drop (d.words + ids + 3 - (d.words + ids)) (d.words + ids) reading ∙ ap (λ n. drop n reading) past
+
+          one : suc (d.words + ids) ≡ d.words + ids + 1
+          one = omega arith
+
+          two : suc (suc (d.words + ids)) ≡ d.words + ids + 2
+          two = omega arith
+
       front : take (d.words + reading_tail) hides ≡ image_of d.words (take (d.words + reading_tail) reading)
       front =
-          ap (take (d.words + reading_tail)) h
+          ap (take (d.words + reading_tail)) sets_three
           ∙ (take-set-lt (d.words + reading_tail) _ (d.words + ids + 2) not_given (omega arith)
           ∙ (ap (λ l. set l (d.words + ids + 2) not_given) (take-set-lt (d.words + reading_tail) _ (d.words + ids + 1) not_given (omega arith)
           ∙ ap (λ l. set l (d.words + ids + 1) not_given) (take-set-lt (d.words + reading_tail) reading (d.words + ids) not_given (omega arith)))
           ∙ (hidden_three (take (d.words + reading_tail) reading) (d.words + ids) ∙ image_is d.words (take (d.words + reading_tail) reading) b.long)))
+
+      pub dump_within : d.words + reading_tail ≤ length hides
+      dump_within = rw sets_three (simp length-set b.within)
 
       ok : image_ok d.words (take (d.words + reading_tail) hides) ≡ true
       ok = ap (image_ok d.words) front ∙ image_sound d.words (take (d.words + reading_tail) reading) b.good
@@ -195,13 +258,13 @@ module _ (table sheet : List ℕ) (number : ℕ) (e : number ≡ board_number ta
       few : length (hex_text d.words (take (d.words + reading_tail) hides)) ≤ most_dump
       few = rw front (text_few d b.served (take (d.words + reading_tail) reading) b.good)
 
-      text_is : hex_text d.words (take (d.words + reading_tail) hides) ≡ dump_text table sheet
-      unfolding dump_text
+      text_is : hex_text d.words (take (d.words + reading_tail) hides) ≡ hex_text (record_of table sheet).words (image_of (record_of table sheet).words (board_reading table sheet))
       text_is =
           ap (hex_text d.words) (front ∙ ap (image_of d.words) b.front)
-          ∙ (ap (λ x. hex_text x.words (image_of x.words (board_reading table sheet))) b.record_is
-          ∙ (sym (pick_true _ _ _ (ap not (sym protected_is ∙ f)))
-          ∙ board_text table sheet number e _ (refused_text (board_number table sheet) 0 0) z))
+          ∙ ap (λ x. hex_text x.words (image_of x.words (board_reading table sheet))) b.record_is
 
-      pub dump_written : (r : WrittenHex) (out : List ℕ) → WroteHex d (take (d.words + reading_tail) hides) (replicate most_dump 0) r out → Dumped (dump_text table sheet) r out
-      dump_written r out p = rw text_is at (dumped d b.sound (take (d.words + reading_tail) hides) ok few r out p)
+      pub dump_written : (out : List ℕ) → length out ≡ most_dump → (r : Result ℕ Refusal) (after : List ℕ) → WroteHex d (take (d.words + reading_tail) hides) out (written_told r) after
+          → (number_in r ≡ dump_number table sheet) × IfOk r (λ n. Dumped table sheet n after)
+      dump_written out long r after p =
+          let w = dumped d b.sound (take (d.words + reading_tail) hides) ok few out long r after p in
+          (w.0 ∙ sym (opened ∙ pick_true _ _ _ (ap not (sym f))), rw text_is at w.1)

@@ -1,5 +1,5 @@
 -- Laws of how long the text of a whole image is: 44 bytes for eight program words, the upper half once, the user IDs, each configuration word, the end record.
-use Rattle.std.specs.Prelude.{ℕ, zero, suc, ◌+◌, ◌-◌, ◌*◌, ◌/◌, ◌%◌, ◌≤◌, ◌<◌, ◌≡◌, true, List, length, get_or}
+use Rattle.std.specs.Prelude.{ℕ, zero, suc, ◌+◌, ◌-◌, ◌*◌, ◌/◌, ◌%◌, ◌≤◌, ◌<◌, ◌≡◌, true, List, min, length, get_or}
 use Rattle.std.proofs.Common.{add-zero, arith, sym, ap, ◌∙◌, length-append}
 use Rattle.std.proofs.Math.Decide.{ℕ_discrete}
 use Rattle.words.specs.Word.{not_given}
@@ -9,7 +9,7 @@ use Rattle.device.specs.LawsMemory.{programmable_low, programmable_config}
 use Rattle.hexwrite.specs.Writer.{upper_of, run_text, upper_after, text_from, hex_text}
 use Rattle.hexwrite.specs.LawsWrite.{upper_text}
 use Rattle.hexwrite.specs.LawsWriteRun.{run_none, after_some, upper_same, length_new, upper_most, upper_rises}
-use Rattle.hexwrite.specs.LawsWriteStop.{text_end, text_skip, BlockStop, block_ends, image_ends, Going, going_first, going_on, RunTo, run_gap, run_whole}
+use Rattle.hexwrite.specs.LawsWriteStop.{text_end, text_skip, BlockStop, block_ends, Going, going_first, going_on, RunTo, run_gap, run_whole}
 use Rattle.hexwrite.specs.LawsWriteText.{length_run, length_text}
 
 -- an upper half is written at most once, since it only rises
@@ -69,7 +69,8 @@ module _ (words : ℕ) (m : words ≤ most_words) (eighths : words % 8 ≡ 0) (i
   second : (upper : ℕ) → upper ≤ upper_of words (words + 8) → length (rest upper (words + 8)) ≤ 16 + 16 * (1 - upper)
   second upper p =
       let e : length image ≡ words + 9 = long in
-      let b : BlockStop (words + 8) (length image) (length image) = image_ends (words + 8) (length image) (omega arith) (omega arith) in
+      let stop : min (length image) ((words + 8) / 8 * 8 + 8) ≡ length image = omega (arith, eighths) in
+      let b : BlockStop (words + 8) (length image) (length image) = rw stop at (block_ends (words + 8) (length image) (omega arith)) in
       let run : RunTo image (words + 8) (length image) =
       run_whole image (words + 8) (length image) (length image) b
       (run_to (words + 8) (length image) (length image) (omega arith) b (omega arith) (λ j h w. given j (programmable_config words j (omega arith) (omega arith)))) (omega arith) in
@@ -82,8 +83,8 @@ module _ (words : ℕ) (m : words ≤ most_words) (eighths : words % 8 ≡ 0) (i
   first : (upper : ℕ) → upper ≤ upper_of words (words + 7) → length (rest upper (words + 7)) ≤ 32 + 16 * (1 - upper)
   first upper p =
       let e : length image ≡ words + 9 = long in
-      let stop : (words + 7) / 8 * 8 + 8 ≡ words + 8 = omega (arith, eighths) in
-      let b : BlockStop (words + 7) (length image) (words + 8) = rw stop at (block_ends (words + 7) (length image) (omega arith) (omega (arith, eighths))) in
+      let stop : min (length image) ((words + 7) / 8 * 8 + 8) ≡ words + 8 = omega (arith, eighths) in
+      let b : BlockStop (words + 7) (length image) (words + 8) = rw stop at (block_ends (words + 7) (length image) (omega arith)) in
       let run : RunTo image (words + 7) (words + 8) =
       run_whole image (words + 7) (words + 8) (words + 8) b
       (run_to (words + 7) (words + 8) (words + 8) (omega arith) b (omega arith) (λ j h w. given j (programmable_config words j (omega arith) (omega arith)))) (omega arith) in
@@ -111,8 +112,8 @@ module _ (words : ℕ) (m : words ≤ most_words) (eighths : words % 8 ≡ 0) (i
   tail : (upper : ℕ) → upper ≤ upper_of words words → length (rest upper words) ≤ 60 + 16 * (1 - upper)
   tail upper p =
       let e : length image ≡ words + 9 = long in
-      let stop : words / 8 * 8 + 8 ≡ words + 8 = omega (arith, eighths) in
-      let b : BlockStop words (length image) (words + 8) = rw stop at (block_ends words (length image) (omega arith) (omega (arith, eighths))) in
+      let stop : min (length image) (words / 8 * 8 + 8) ≡ words + 8 = omega (arith, eighths) in
+      let b : BlockStop words (length image) (words + 8) = rw stop at (block_ends words (length image) (omega arith)) in
       let run : RunTo image words (words + 4) =
       run_gap image words (words + 8) (words + 4) b
       (run_to words (words + 8) (words + 4) (omega arith) b (omega arith) (λ j h w. given j (programmable_low words j w)))
@@ -133,8 +134,8 @@ module _ (words : ℕ) (m : words ≤ most_words) (eighths : words % 8 ≡ 0) (i
       rw here (omega arith)
   blocks (suc k) start upper all p =
       let e : length image ≡ words + 9 = long in
-      let stop : start / 8 * 8 + 8 ≡ start + 8 = omega (arith, eighths) in
-      let b : BlockStop start (length image) (start + 8) = rw stop at (block_ends start (length image) (omega arith) (omega (arith, eighths))) in
+      let stop : min (length image) (start / 8 * 8 + 8) ≡ start + 8 = omega (arith, eighths) in
+      let b : BlockStop start (length image) (start + 8) = rw stop at (block_ends start (length image) (omega arith)) in
       let run : RunTo image start (start + 8) =
       run_whole image start (start + 8) (start + 8) b
       (run_to start (start + 8) (start + 8) (omega arith) b (omega arith) (λ j h w. given j (programmable_low words j (omega arith)))) (omega arith) in

@@ -3,8 +3,7 @@ use Rattle.std.specs.Prelude.{ℕ, List, eqb}
 use Rattle.words.specs.Choice.{unless}
 use Rattle.sheet.specs.Sheet.{sheet_number, words_in}
 use Rattle.judge.specs.Checksum.{checksum_of}
-use Rattle.judge.specs.Verify.{verdict_of}
-use Rattle.judge.specs.declared.Verdict.{Verdict}
+use Rattle.judge.specs.Verify.{ToldVerdict, verdict_of}
 use Rattle.print.specs.Print.{refused_text, sum_text, verdict_text}
 use Rattle.board.specs.Open.{record_of, name_of, board_number, board_reading}
 
@@ -15,7 +14,7 @@ checksum_text table sheet =
     (sum_text (checksum_of (record_of table sheet) (board_reading table sheet)))
 
 -- a verdict's line
-unfoldable pub verdict_line : Verdict → List ℕ
+unfoldable pub verdict_line : ToldVerdict → List ℕ
 verdict_line v = verdict_text v.number v.address.0 v.count
 
 -- the board's sheet, and then the wanted one, under the same record and name
