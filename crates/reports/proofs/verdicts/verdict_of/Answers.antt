@@ -23,13 +23,21 @@ returns-in_err-read_sheet-clause-number c = let p = err_from_is_err_and c.from_r
     rw (p.1, p.2) (verify_read _ _ _ c.in_ok-found.ensures.number _ c.in_ok-found.ensures.found _ (board_answered _ _ c.in_ok-found.ensures.number _ c.in_ok-found.ensures.found _ c.in_ok-found.ensures.buffer) _ c.name.ensures _ c.in_err-read_sheet.ensures.0)
 
 pub slice_bounds-aim-end-2 : goal.slice_bounds-aim-end-2
-slice_bounds-aim-end-2 c = verify_within _ _ _ c.in_ok-found.ensures.number _ c.in_ok-found.ensures.found _ (board_answered _ _ c.in_ok-found.ensures.number _ c.in_ok-found.ensures.found _ c.in_ok-found.ensures.buffer) _ c.name.ensures _ c.in_ok-read_sheet.ensures.0 refl _ (ap (λ x. x ++ drop (c.in_ok-found.found.device.words + reading_tail) (replicate most_reading 0)) c.in_ok-read_sheet.ensures.1)
+slice_bounds-aim-end-2 c = verify_within _ _ _ c.in_ok-found.ensures.number _ c.in_ok-found.ensures.found _
+    (board_answered _ _ c.in_ok-found.ensures.number _ c.in_ok-found.ensures.found _ c.in_ok-found.ensures.buffer) _ c.name.ensures _ c.in_ok-read_sheet.ensures.0 refl _
+    (ap (λ x. x ++ drop (c.in_ok-found.found.device.words + reading_tail) (replicate most_reading 0)) c.in_ok-read_sheet.ensures.1)
 
 pub slice_bounds-verify-end : goal.slice_bounds-verify-end
-slice_bounds-verify-end c = sym (length-take-le _ _ (verify_within _ _ _ c.in_ok-found.ensures.number _ c.in_ok-found.ensures.found _ (board_answered _ _ c.in_ok-found.ensures.number _ c.in_ok-found.ensures.found _ c.in_ok-found.ensures.buffer) _ c.name.ensures _ c.in_ok-read_sheet.ensures.0 refl _ (ap (λ x. x ++ drop (c.in_ok-found.found.device.words + reading_tail) (replicate most_reading 0)) c.in_ok-read_sheet.ensures.1)))
+slice_bounds-verify-end c = sym (length-take-le _ _ (verify_within _ _ _ c.in_ok-found.ensures.number _ c.in_ok-found.ensures.found _
+    (board_answered _ _ c.in_ok-found.ensures.number _ c.in_ok-found.ensures.found _ c.in_ok-found.ensures.buffer) _ c.name.ensures _ c.in_ok-read_sheet.ensures.0 refl _
+    (ap (λ x. x ++ drop (c.in_ok-found.found.device.words + reading_tail) (replicate most_reading 0)) c.in_ok-read_sheet.ensures.1)))
 
 pub returns-clause-number : goal.returns-clause-number
-returns-clause-number c = (verify_judged _ _ _ c.in_ok-found.ensures.number _ c.in_ok-found.ensures.found _ (board_answered _ _ c.in_ok-found.ensures.number _ c.in_ok-found.ensures.found _ c.in_ok-found.ensures.buffer) _ c.name.ensures _ c.in_ok-read_sheet.ensures.0 refl _ (ap (λ x. x ++ drop (c.in_ok-found.found.device.words + reading_tail) (replicate most_reading 0)) c.in_ok-read_sheet.ensures.1) _ c.verify.ensures).0
+returns-clause-number c = (verify_judged _ _ _ c.in_ok-found.ensures.number _ c.in_ok-found.ensures.found _
+    (board_answered _ _ c.in_ok-found.ensures.number _ c.in_ok-found.ensures.found _ c.in_ok-found.ensures.buffer) _ c.name.ensures _ c.in_ok-read_sheet.ensures.0 refl _
+    (ap (λ x. x ++ drop (c.in_ok-found.found.device.words + reading_tail) (replicate most_reading 0)) c.in_ok-read_sheet.ensures.1) _ c.verify.ensures).0
 
 pub returns-clause-verdict : goal.returns-clause-verdict
-returns-clause-verdict c = (verify_judged _ _ _ c.in_ok-found.ensures.number _ c.in_ok-found.ensures.found _ (board_answered _ _ c.in_ok-found.ensures.number _ c.in_ok-found.ensures.found _ c.in_ok-found.ensures.buffer) _ c.name.ensures _ c.in_ok-read_sheet.ensures.0 refl _ (ap (λ x. x ++ drop (c.in_ok-found.found.device.words + reading_tail) (replicate most_reading 0)) c.in_ok-read_sheet.ensures.1) _ c.verify.ensures).1
+returns-clause-verdict c = (verify_judged _ _ _ c.in_ok-found.ensures.number _ c.in_ok-found.ensures.found _
+    (board_answered _ _ c.in_ok-found.ensures.number _ c.in_ok-found.ensures.found _ c.in_ok-found.ensures.buffer) _ c.name.ensures _ c.in_ok-read_sheet.ensures.0 refl _
+    (ap (λ x. x ++ drop (c.in_ok-found.found.device.words + reading_tail) (replicate most_reading 0)) c.in_ok-read_sheet.ensures.1) _ c.verify.ensures).1
