@@ -1,5 +1,5 @@
 // The fields of an answer, put one after another, each with the space before it.
-ghost use Rattle.std.specs.Prelude.{◌≡◌, ◌≤◌, length, IfOk};
+ghost use Rattle.std.specs.Prelude.{◌≤◌, length};
 
 use crate::wrong::Wrong;
 use refusal::{Refusal, number_in};
@@ -53,41 +53,49 @@ impl<'a> Answer<'a> {
 
     // A record, and where its name stands in its table; zeros for none.
     pub fn found(&mut self, found: Option<Found>) -> Result<(), Wrong> {
-        let numbers = found.map_or([0; 8], |f| {
-            let d = f.device;
-            let record = [d.id, d.words, d.row, d.mask1, d.mask2, d.idmask];
-            let [id, words, row, mask1, mask2, idmask] = record.map(usize::from);
-            [id, words, row, mask1, mask2, idmask, f.name_at, f.name_len]
-        });
-        for n in numbers {
+        let Some(found) = found else {
+            return self.text(b" 0 0 0 0 0 0 0 0");
+        };
+        let d = found.device;
+        for n in [d.id, d.words, d.row, d.mask1, d.mask2, d.idmask] {
             self.number(n)?;
         }
-        Ok(())
+        self.number(found.name_at)?;
+        self.number(found.name_len)
     }
 
-    // Bytes, two digits each, or a dash for none.
+    // Bytes, or none.
     pub fn bytes(&mut self, s: &[u8]) -> Result<(), Wrong> {
-        if s.is_empty() {
-            return self.text(b" -");
-        }
-        self.text(b" ")?;
-        let mut digits = [0; 2];
-        for b in s {
-            numerals::hex::put_byte(&mut digits, 0, *b);
-            self.text(&digits)?;
-        }
-        Ok(())
+        self.list::<_, _, 2>(
+            s,
+            |digits: &mut [u8], b| numerals::hex::put_byte(digits, 0, b),
+        )
     }
 
-    // Words, four digits each, or a dash for none.
+    // Words, or none.
     pub fn words(&mut self, s: &[u16]) -> Result<(), Wrong> {
-        if s.is_empty() {
+        self.list::<_, _, 4>(
+            s,
+            |digits: &mut [u8], w| numerals::hex::put_word(digits, 0, w),
+        )
+    }
+
+    // Numbers of so many digits each; a dash stands for none.
+    fn list<T: Copy, P: Fn(&mut [u8], T), const DIGITS: usize>(
+        &mut self,
+        numbers: &[T],
+        put: P,
+    ) -> Result<(), Wrong>
+        requires few { DIGITS ≤ 4 }
+        requires callable { P.IsAlwaysCallable put }
+    {
+        if numbers.is_empty() {
             return self.text(b" -");
         }
         self.text(b" ")?;
-        let mut digits = [0; 4];
-        for w in s {
-            numerals::hex::put_word(&mut digits, 0, *w);
+        let mut digits = [0; DIGITS];
+        for n in numbers {
+            put(&mut digits, *n);
             self.text(&digits)?;
         }
         Ok(())
