@@ -211,7 +211,7 @@ module _ (table sheet : List ℕ) where
     pub dump_23 : true ≡ protected d.words (take (d.words + reading_tail) reading) → 23 ≡ dump_number table sheet
     dump_23 t = sym (opened ∙ pick_false _ _ _ (ap not (sym t)))
 
-    pub dump_room : d.words + ids + 3 ≤ length reading
+    dump_room : d.words + ids + 3 ≤ length reading
     dump_room = let w : d.words + reading_tail ≤ length reading = b.within in omega arith
 
     -- the writer's answer of the image that the three hidden words leave

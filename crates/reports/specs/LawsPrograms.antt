@@ -28,7 +28,8 @@ use Rattle.judge.specs.LawsChecksum.{sum_there}
 use Rattle.judge.specs.LawsCount.{count_le}
 use Rattle.judge.specs.LawsTold.{verdict_unique}
 use Rattle.judge.specs.LawsVerify.{verified_judged}
-use Rattle.print.specs.Print.{refused_text, sum_text, verdict_text}
+use Rattle.print.specs.LawsPrint.{prints_as}
+use Rattle.print.specs.Print.{Prints, refused_text, sum_text, verdict_text}
 use Rattle.print.specs.LawsLines.{either_short, sum_short, verdict_short}
 use Rattle.board.specs.Open.{most_program, record_of, name_of, place_of, board_number, board_reading}
 use Rattle.board.specs.LawsOpen.{served_most, name_is}
@@ -46,9 +47,13 @@ module _ (table sheet : List ℕ) where
       sum_there d (take (d.words + reading_tail) reading) b.sound b.good r e
       ∙ ((λ i. Ok (checksum_of d (b.front i))) ∙ (λ i. Ok (checksum_of (b.record_is i) (board_reading table sheet))))
 
-  pub checksum_refused : (e : Refusal) → number_of e ≡ board_number table sheet → refused_text (number_of e) 0 0 ≡ checksum_text table sheet
+  checksum_refused_text : (e : Refusal) → number_of e ≡ board_number table sheet → refused_text (number_of e) 0 0 ≡ checksum_text table sheet
   unfolding checksum_text
-  checksum_refused e p = refusal_text (board_number table sheet) _ e p
+  checksum_refused_text e p = refusal_text (board_number table sheet) _ e p
+
+  -- a refusal is printed by the number that the code has of it
+  pub checksum_refused : (e : Refusal) → number_of e ≡ board_number table sheet → (n : ℕ) (out : List ℕ) (r : ℕ) (out' : List ℕ) → Prints (refused_text n 0 0) out r out' → n ≡ number_of e → Prints (checksum_text table sheet) out r out'
+  checksum_refused e p n out r out' q is = prints_as _ _ _ _ _ (ap (λ k. refused_text k 0 0) is ∙ checksum_refused_text e p) q
 
   pub checksum_found : 0 ≡ board_number table sheet → (n : ℕ) → n ≡ checksum_of (record_of table sheet) (board_reading table sheet) → sum_text n ≡ checksum_text table sheet
   unfolding checksum_text
