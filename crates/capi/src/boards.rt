@@ -31,23 +31,15 @@ pub extern "C" fn tickmallet_verify(
 ) -> u8
     ensures { verdict_answer result address.new count.new ≡ verified (device_at numbers.now) wanted.now reading.now }
 {
-    *address = 0;
-    *count = 0;
-    match judge::verify(device_at(numbers), wanted, reading) {
-        Ok(Verdict::Same) => 0,
-        Ok(
-            Verdict::Differs {
-                address: first,
-                count: all,
-            },
-        ) => {
-            *address = first.0;
-            *count = all;
-            40
-        }
-        Ok(Verdict::Protected) => 41,
-        Err(refusal) => refusal.number(),
-    }
+    let (number, first, all) = match judge::verify(device_at(numbers), wanted, reading) {
+        Ok(Verdict::Same) => (0, 0, 0),
+        Ok(Verdict::Differs { address, count }) => (40, address.0, count),
+        Ok(Verdict::Protected) => (41, 0, 0),
+        Err(refusal) => (refusal.number(), 0, 0),
+    };
+    *address = first;
+    *count = all;
+    number
 }
 
 // The ID on a sheet's first line.

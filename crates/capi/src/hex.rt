@@ -17,16 +17,13 @@ pub extern "C" fn tickmallet_read_hex(
 ) -> u8
     ensures { HexRead (device_at numbers.now) text.now image.old (hex_outcome result line.new column.new) image.new }
 {
-    *line = 0;
-    *column = 0;
-    match hexread::read_hex(device_at(numbers), text, image) {
-        Ok(()) => 0,
-        Err(misread) => {
-            *line = misread.line;
-            *column = misread.column;
-            misread.refusal.number()
-        }
-    }
+    let (number, at_line, at_column) = match hexread::read_hex(device_at(numbers), text, image) {
+        Ok(()) => (0, 0, 0),
+        Err(misread) => (misread.refusal.number(), misread.line, misread.column),
+    };
+    *line = at_line;
+    *column = at_column;
+    number
 }
 
 // An image written as HEX text.
