@@ -63,6 +63,7 @@ pub fn keep(text: &mut [u8], from: usize, have: usize) -> usize
 pub fn end(text: &[u8], have: usize) -> Result<(), Wrong>
     ensures sound { IsOk result ↔ (have ≡ 0 × 0 < length text.now) }
     ensures long { IsErrOf result Wrong.TooLong ↔ (length text.now ≤ have) }
+    ensures unended { IsErrOf result Wrong.Unended ↔ (0 < have × have < length text.now) }
 {
     if text.len() <= have {
         Err(Wrong::TooLong)
