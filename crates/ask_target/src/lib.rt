@@ -12,7 +12,10 @@ pub fn answer(name: &str, fields: &mut Fields, out: &mut Answer) -> Result<(), W
         "target.step" => model::step(
             fields,
             out,
-            |d, r, c, p, w, m| target::step(d, r, c, p, w, m),
+            |d, r, c, p, w, m| match target::step(d, r, c, p, w, m) {
+                Ok(left) => (left, Ok(())),
+                Err(refusal) => (r, Err(refusal)),
+            },
         ),
         "lent.step_on" => model::step(
             fields,

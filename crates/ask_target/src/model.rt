@@ -5,9 +5,9 @@ use refusal::{Refusal, number_in};
 use target::{Ran, Registers};
 use words::WordAddress;
 
-// One step, made by one of three calls with the same fields.
+// One step, made by one of three calls with the same fields. `target::step` takes its registers by value: beside a refusal the given ones are told.
 pub(crate) fn step<
-    S: Fn(Device, Registers, u8, u16, &mut [u16], &mut [u16]) -> Result<Registers, Refusal>,
+    S: Fn(Device, Registers, u8, u16, &mut [u16], &mut [u16]) -> (Registers, Result<(), Refusal>),
 >(fields: &mut Fields, out: &mut Answer, step: S) -> Result<(), Wrong>
     requires { S.IsAlwaysCallable step }
 {
@@ -21,10 +21,9 @@ pub(crate) fn step<
     let words = fields.words()?;
     let cells = fields.words()?;
     fields.end()?;
-    let registers = Registers { counter, latches };
-    let stepped = step(d, registers, code, payload, words, cells);
-    out.number(number_in(&stepped))?;
-    let registers = stepped.unwrap_or(registers);
+    let given = Registers { counter, latches };
+    let (registers, answer) = step(d, given, code, payload, words, cells);
+    out.number(number_in(&answer))?;
     out.number(registers.counter.0)?;
     out.words(&registers.latches)?;
     out.words(words)?;

@@ -1,9 +1,9 @@
 -- For each public call: two results that its promise allows are equal, the answer and the later content of each buffer.
-use Rattle.std.specs.Prelude.{◌≡◌, ℕ, List, Result}
+use Rattle.std.specs.Prelude.{◌≡◌, ℕ, List, Result, refl}
 use Rattle.words.specs.LawsPromise.{determined}
 use Rattle.refusal.specs.declared.Refusal.{Refusal}
-use Rattle.refusal.specs.Refusal.{number_in, value_in}
-use Rattle.refusal.specs.LawsRefusal.{answer_unique}
+use Rattle.refusal.specs.Refusal.{number_in}
+use Rattle.refusal.specs.LawsRefusal.{number_in_unique}
 use Rattle.device.specs.declared.Device.{Device}
 use Rattle.target.specs.Step.{Steps}
 use Rattle.target.specs.declared.Registers.{Registers}
@@ -12,11 +12,11 @@ use Rattle.lent.proofs.step_method.Reads as step_method
 use Rattle.lent.proofs.text.first_number.Reads as first_number
 use Rattle.lent.proofs.text.third_line.Reads as third_line
 
-same_steps : {d : Device} {h : Registers} {c p : ℕ} {ws cs ws₁ ws₂ cs₁ cs₂ : List ℕ} (r s : Result Registers Refusal) → Steps d h c p ws cs (number_in r) (value_in h r) ws₁ cs₁
-    → Steps d h c p ws cs (number_in s) (value_in h s) ws₂ cs₂
+same_steps : {d : Device} {h : Registers} {c p : ℕ} {ws cs ws₁ ws₂ cs₁ cs₂ : List ℕ} (r s : Registers × Result Unit Refusal) → Steps d h c p ws cs (number_in r.1) r.0 ws₁ cs₁
+    → Steps d h c p ws cs (number_in s.1) s.0 ws₂ cs₂
     → (r ≡ s) × (ws₁ ≡ ws₂) × (cs₁ ≡ cs₂)
-same_steps {h = h} r s p q = (
-  answer_unique h r s (determined p.answers q.answers) (determined p.registers q.registers),
+same_steps r s p q = (
+  λ i. (determined p.registers q.registers i, number_in_unique (λ x y. refl) r.1 s.1 (determined p.answers q.answers) i),
   determined p.words_read q.words_read,
   determined p.cells_left q.cells_left,
 )

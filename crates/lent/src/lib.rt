@@ -3,7 +3,7 @@
 
 mod text;
 
-ghost use Rattle.refusal.specs.Refusal.{number_in, value_in};
+ghost use Rattle.refusal.specs.Refusal.{number_in};
 ghost use Rattle.target.specs.Step.{Steps};
 
 use device::Device;
@@ -11,7 +11,7 @@ use refusal::Refusal;
 use target::Registers;
 pub use text::{first_number, third_line};
 
-// One step by `target::step_on`: the registers are lent to it, and come back.
+// One step by `target::step_on`: the registers are lent to it, and what it left in them comes back, after a refusal too.
 pub fn step_on(
     d: Device,
     r: Registers,
@@ -19,12 +19,12 @@ pub fn step_on(
     payload: u16,
     words: &mut [u16],
     cells: &mut [u16],
-) -> Result<Registers, Refusal>
-    ensures { Steps d r code payload words.old cells.old (number_in result) (value_in r result) words.new cells.new }
+) -> (Registers, Result<(), Refusal>)
+    ensures { Steps d r code payload words.old cells.old (number_in result.1) result.0 words.new cells.new }
 {
     let mut registers = r;
-    target::step_on(&mut registers, d, code, payload, words, cells)?;
-    Ok(registers)
+    let answer = target::step_on(&mut registers, d, code, payload, words, cells);
+    (registers, answer)
 }
 
 // The same by the method. The two stay apart: each is a request of its own (`step_on` and `step_method` of docs/ANSWER.md).
@@ -35,10 +35,10 @@ pub fn step_method(
     payload: u16,
     words: &mut [u16],
     cells: &mut [u16],
-) -> Result<Registers, Refusal>
-    ensures { (Steps d r code payload words.old cells.old (number_in result) (value_in r result) words.new cells.new) }
+) -> (Registers, Result<(), Refusal>)
+    ensures { (Steps d r code payload words.old cells.old (number_in result.1) result.0 words.new cells.new) }
 {
     let mut registers = r;
-    registers.step(d, code, payload, words, cells)?;
-    Ok(registers)
+    let answer = registers.step(d, code, payload, words, cells);
+    (registers, answer)
 }
