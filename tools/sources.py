@@ -110,6 +110,6 @@ def is_code(crate, edit):
 def requests():
     """The names that the crates ask_... match, of those that answer hands to one of them."""
     sources = "\n".join(read(file) for file in sorted(ROOT.glob("crates/ask_*/src/*.rt")))
-    heads = re.findall(r'^ *((?:"\w+" \| )*"\w+") => ask_', read(ROOT / "crates/answer/src/request.rt"), re.M)
-    heads = {head for arm in heads for head in re.findall(r"\w+", arm)}
-    return {name for name in re.findall(r'^ *"(\w+\.\w+)" =>', sources, re.M) if name.split(".")[0] in heads}
+    heads = re.findall(r'^ *((?:b"\w+" \| )*b"\w+") => ask_', read(ROOT / "crates/answer/src/request.rt"), re.M)
+    heads = {head for arm in heads for head in re.findall(r'b"(\w+)"', arm)}
+    return {name for name in re.findall(r'^ *b"(\w+\.\w+)" =>', sources, re.M) if name.split(".")[0] in heads}

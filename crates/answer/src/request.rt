@@ -21,20 +21,15 @@ pub(crate) fn answer(
 
 // The answer to a request with this name, by the crate that it begins with.
 fn answer_to(name: &[u8], fields: &mut Fields, out: &mut Answer) -> Result<(), Wrong> {
-    let Ok(name) = str::from_utf8(name) else {
-        return Err(Wrong::UnknownName);
-    };
-    let Some((of, _)) = name.split_once('.') else {
-        return Err(Wrong::UnknownName);
-    };
-    match of {
-        "words" => ask_words::answer(name, fields, out),
-        "device" | "judge" | "sheet" => ask_device::answer(name, fields, out),
-        "ihex" => ask_hex::answer(name, fields, out),
-        "target" | "lent" => ask_target::answer(name, fields, out),
-        "plan" => ask_plan::answer(name, fields, out),
-        "print" | "board" => ask_board::answer(name, fields, out),
-        "bench" => ask_bench::answer(name, fields, out),
+    let end = name.iter().position(|c| *c == b'.').unwrap_or(name.len());
+    match &name[..end] {
+        b"words" => ask_words::answer(name, fields, out),
+        b"device" | b"judge" | b"sheet" => ask_device::answer(name, fields, out),
+        b"ihex" => ask_hex::answer(name, fields, out),
+        b"target" | b"lent" => ask_target::answer(name, fields, out),
+        b"plan" => ask_plan::answer(name, fields, out),
+        b"print" | b"board" => ask_board::answer(name, fields, out),
+        b"bench" => ask_bench::answer(name, fields, out),
         _ => Err(Wrong::UnknownName),
     }
 }

@@ -4,22 +4,22 @@
 use ask::{Answer, Fields, Wrong};
 
 // Puts the answer to a request on a program's text.
-pub fn answer(name: &str, fields: &mut Fields, out: &mut Answer) -> Result<(), Wrong> {
+pub fn answer(name: &[u8], fields: &mut Fields, out: &mut Answer) -> Result<(), Wrong> {
     match name {
-        "bench.checksum" => of_two(fields, out, |t, s, o| reports::checksum(t, s, o)),
-        "bench.readback" => of_two(fields, out, |t, s, o| listings::readback(t, s, o)),
-        "bench.dump" => of_two(fields, out, |t, s, o| reports::dump(t, s, o)),
-        "bench.newsheet" => of_two(fields, out, |t, s, o| moves::newsheet(t, s, o)),
-        "bench.oldsheet" => of_two(fields, out, |t, s, o| moves::oldsheet(t, s, o)),
-        "bench.verify" => of_three(fields, out, |t, s, w, o| reports::verify(t, s, w, o)),
-        "bench.update" => of_three(fields, out, |t, s, h, o| listings::update(t, s, h, o)),
-        "bench.fresh" => of_three(fields, out, |t, s, h, o| listings::fresh(t, s, h, o)),
-        "bench.wanted" => of_three(fields, out, |t, s, h, o| listings::wanted(t, s, h, o)),
-        "bench.wanted_fresh" => {
+        b"bench.checksum" => of_two(fields, out, |t, s, o| reports::checksum(t, s, o)),
+        b"bench.readback" => of_two(fields, out, |t, s, o| listings::readback(t, s, o)),
+        b"bench.dump" => of_two(fields, out, |t, s, o| reports::dump(t, s, o)),
+        b"bench.newsheet" => of_two(fields, out, |t, s, o| moves::newsheet(t, s, o)),
+        b"bench.oldsheet" => of_two(fields, out, |t, s, o| moves::oldsheet(t, s, o)),
+        b"bench.verify" => of_three(fields, out, |t, s, w, o| reports::verify(t, s, w, o)),
+        b"bench.update" => of_three(fields, out, |t, s, h, o| listings::update(t, s, h, o)),
+        b"bench.fresh" => of_three(fields, out, |t, s, h, o| listings::fresh(t, s, h, o)),
+        b"bench.wanted" => of_three(fields, out, |t, s, h, o| listings::wanted(t, s, h, o)),
+        b"bench.wanted_fresh" => {
             of_three(fields, out, |t, s, h, o| listings::wanted_fresh(t, s, h, o))
         }
-        "bench.trial" => of_three(fields, out, |t, s, p, o| trials::trial(t, s, p, o)),
-        "bench.gather" => of_three(fields, out, |t, s, w, o| gathers::gather(t, s, w, o)),
+        b"bench.trial" => of_three(fields, out, |t, s, p, o| trials::trial(t, s, p, o)),
+        b"bench.gather" => of_three(fields, out, |t, s, w, o| gathers::gather(t, s, w, o)),
         _ => Err(Wrong::UnknownName),
     }
 }

@@ -7,14 +7,14 @@ mod texts;
 use ask::{Answer, Fields, Wrong};
 
 // Puts the answer to a request of the crates board and print.
-pub fn answer(name: &str, fields: &mut Fields, out: &mut Answer) -> Result<(), Wrong> {
+pub fn answer(name: &[u8], fields: &mut Fields, out: &mut Answer) -> Result<(), Wrong> {
     match name {
-        "print.refusal" => texts::refusal(fields, out),
-        "print.sum" => texts::sum(fields, out),
-        "print.verdict" => texts::verdict(fields, out),
-        "print.text" => texts::text(fields, out),
-        "board.open_record" => boards::open_record(fields, out),
-        "board.open_board" => boards::open_board(fields, out),
+        b"print.refusal" => texts::refusal(fields, out),
+        b"print.sum" => texts::sum(fields, out),
+        b"print.verdict" => texts::verdict(fields, out),
+        b"print.text" => texts::text(fields, out),
+        b"board.open_record" => boards::open_record(fields, out),
+        b"board.open_board" => boards::open_board(fields, out),
         _ => Err(Wrong::UnknownName),
     }
 }

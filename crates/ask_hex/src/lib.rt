@@ -5,12 +5,12 @@ use ask::{Answer, Fields, Wrong};
 use lines::NextLine;
 
 // Puts the answer to a request on HEX text.
-pub fn answer(name: &str, fields: &mut Fields, out: &mut Answer) -> Result<(), Wrong> {
+pub fn answer(name: &[u8], fields: &mut Fields, out: &mut Answer) -> Result<(), Wrong> {
     match name {
-        "ihex.read_hex" => read_hex(fields, out),
-        "ihex.write_hex" => write_hex(fields, out),
-        "ihex.next_line" => ask_line(fields, out, |s, at, n| lines::next_line(s, at, n)),
-        "ihex.line_from" => ask_line(fields, out, |s, at, n| lines::line_from(s, at, n)),
+        b"ihex.read_hex" => read_hex(fields, out),
+        b"ihex.write_hex" => write_hex(fields, out),
+        b"ihex.next_line" => ask_line(fields, out, |s, at, n| lines::next_line(s, at, n)),
+        b"ihex.line_from" => ask_line(fields, out, |s, at, n| lines::line_from(s, at, n)),
         _ => Err(Wrong::UnknownName),
     }
 }

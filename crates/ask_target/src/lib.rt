@@ -7,9 +7,9 @@ mod texts;
 use ask::{Answer, Fields, Wrong};
 
 // Puts the answer to a request of the crates target and lent.
-pub fn answer(name: &str, fields: &mut Fields, out: &mut Answer) -> Result<(), Wrong> {
+pub fn answer(name: &[u8], fields: &mut Fields, out: &mut Answer) -> Result<(), Wrong> {
     match name {
-        "target.step" => model::step(
+        b"target.step" => model::step(
             fields,
             out,
             |d, r, c, p, w, m| match target::step(d, r, c, p, w, m) {
@@ -17,19 +17,19 @@ pub fn answer(name: &str, fields: &mut Fields, out: &mut Answer) -> Result<(), W
                 Err(refusal) => (r, Err(refusal)),
             },
         ),
-        "lent.step_on" => model::step(
+        b"lent.step_on" => model::step(
             fields,
             out,
             |d, r, c, p, w, m| lent::step_on(d, r, c, p, w, m),
         ),
-        "lent.step_method" => model::step(
+        b"lent.step_method" => model::step(
             fields,
             out,
             |d, r, c, p, w, m| lent::step_method(d, r, c, p, w, m),
         ),
-        "target.run" => model::run(fields, out),
-        "lent.first_number" => texts::first_number(fields, out),
-        "lent.third_line" => texts::third_line(fields, out),
+        b"target.run" => model::run(fields, out),
+        b"lent.first_number" => texts::first_number(fields, out),
+        b"lent.third_line" => texts::third_line(fields, out),
         _ => Err(Wrong::UnknownName),
     }
 }
