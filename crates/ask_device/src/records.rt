@@ -1,6 +1,8 @@
 // Requests on device records, the device table, and the kinds of words and lists.
 use ask::{Answer, Fields, Wrong};
+use device::{Device, Sound};
 use refusal::number_in;
+use table::Found;
 
 pub(crate) fn judge(fields: &mut Fields, out: &mut Answer) -> Result<(), Wrong> {
     let d = fields.device()?;
@@ -66,3 +68,49 @@ pub(crate) fn is_name(fields: &mut Fields, out: &mut Answer) -> Result<(), Wrong
     fields.end()?;
     out.number(u8::from(table::is_name(text)))
 }
+
+// The number, and the record that the value holds; zeros beside a refusal.
+pub(crate) fn sound_of(fields: &mut Fields, out: &mut Answer) -> Result<(), Wrong> {
+    let d = fields.device()?;
+    fields.end()?;
+    let sound = Sound::of(d);
+    out.number(number_in(&sound))?;
+    let held = match sound {
+        Ok(s) => s.device,
+        Err(_) => NO_DEVICE,
+    };
+    for n in [
+        held.id,
+        held.words,
+        held.row,
+        held.mask1,
+        held.mask2,
+        held.idmask,
+    ] {
+        out.number(n)?;
+    }
+    Ok(())
+}
+
+// The name that stands at a place of a table. The record beside that place is no part of the answer.
+pub(crate) fn name_of(fields: &mut Fields, out: &mut Answer) -> Result<(), Wrong> {
+    let table = fields.bytes()?;
+    let name_at = fields.number()?;
+    let name_len = fields.number()?;
+    fields.end()?;
+    let found = Found {
+        device: NO_DEVICE,
+        name_at,
+        name_len,
+    };
+    out.bytes(found.name(table))
+}
+
+const NO_DEVICE: Device = Device {
+    id: 0,
+    words: 0,
+    row: 0,
+    mask1: 0,
+    mask2: 0,
+    idmask: 0,
+};

@@ -7,7 +7,7 @@ mod text;
 use ask::{Answer, Fields, Wrong};
 use numerals::hex;
 
-// Puts the answer to a request of the crate words.
+// Puts the answer to a request of the crates words, numerals and marks.
 pub fn answer(name: &[u8], fields: &mut Fields, out: &mut Answer) -> Result<(), Wrong> {
     match name {
         b"words.double" => address::double(fields, out),
@@ -42,6 +42,7 @@ pub fn answer(name: &[u8], fields: &mut Fields, out: &mut Answer) -> Result<(), 
         b"words.put_byte" => text::store(fields, out, hex::put_byte),
         b"words.put_word" => text::store(fields, out, hex::put_word),
         b"words.decimal" => text::decimal(fields, out),
+        b"words.find" => text::find(fields, out),
         _ => Err(Wrong::UnknownName),
     }
 }

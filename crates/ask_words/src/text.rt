@@ -1,4 +1,4 @@
-// Requests on hex and decimal text.
+// Requests on hex and decimal text, and on where a byte stands.
 use ask::{Answer, Fields, Wrong};
 use std::num::TryFromIntError;
 
@@ -56,4 +56,13 @@ pub(crate) fn decimal(fields: &mut Fields, out: &mut Answer) -> Result<(), Wrong
     let bound = fields.number()?;
     fields.end()?;
     out.number(numerals::decimal::read(text, bound).map_or(u64::from(bound) + 1, u64::from))
+}
+
+pub(crate) fn find(fields: &mut Fields, out: &mut Answer) -> Result<(), Wrong> {
+    let text = fields.bytes()?;
+    let from = fields.number()?;
+    let to = fields.number()?;
+    let mark = fields.number()?;
+    fields.end()?;
+    out.number(marks::find(text, from, to, mark))
 }

@@ -60,7 +60,7 @@ impl Call {
 pub const CLASSES: &str =
     "words.*, print.*, next_line, line_from, first_number, third_line: 0 found or done, 1 nothing there (no room); is_words, is_name, is_image, is_reading, is_protected, programmable, fits: the answer; \
      row_differs, row_rises, id_differs, id_rises, is_written: the answer; \
-     under_mask: 0 a configuration word, 1 another entry; plan.wanted: 0 given by the image, 1 not";
+     under_mask: 0 a configuration word, 1 another entry; name_of: 0 the whole name, 1 less; plan.wanted: 0 given by the image, 1 not";
 
 #[derive(Clone, Debug)]
 pub struct Request {
@@ -517,6 +517,18 @@ pub static CALLS: &[Call] = &[
         own: |f| truth(w::is_words(field::words(f, 0), field::num(f, 1))),
     },
     Call {
+        name: "words.find",
+        kinds: &[Bytes, Num(64), Num(64), Num(8)],
+        classes: &[0, 1],
+        own: |f| {
+            let (text, from, to) = (field::bytes(f, 0), field::num(f, 1), field::num(f, 2));
+            or_none(
+                w::find(text, from, to, n8(f, 3)),
+                w::no_mark(text, from, to),
+            )
+        },
+    },
+    Call {
         name: "device.judge",
         kinds: &[Num(16), Num(16), Num(16), Num(16), Num(16), Num(16)],
         classes: &[0, 13],
@@ -617,6 +629,32 @@ pub static CALLS: &[Call] = &[
             let past = i.checked_sub(u64::from(d.words));
             let word = d.under_mask(i as usize, n16(f, D + 1), n16(f, D + 2));
             reply(u32::from(!matches!(past, Some(7 | 8))), vec![word.into()])
+        },
+    },
+    Call {
+        name: "device.sound_of",
+        kinds: &[Num(16), Num(16), Num(16), Num(16), Num(16), Num(16)],
+        classes: &[0, 13],
+        own: |f| {
+            let d = device_at(f);
+            let (number, held) = if d.lawful() {
+                (0u32, d)
+            } else {
+                (13, Device::NONE)
+            };
+            let mut fields = vec![number.into()];
+            fields.extend(device_fields(&held));
+            reply(number, fields)
+        },
+    },
+    Call {
+        name: "device.name_of",
+        kinds: &[Bytes, Num(64), Num(64)],
+        classes: &[0, 1],
+        own: |f| {
+            let (text, at, length) = (field::bytes(f, 0), field::num(f, 1), field::num(f, 2));
+            let name = device::name_of(text, at, length);
+            reply(u32::from((name.len() as u64) < length), vec![name.into()])
         },
     },
     Call {

@@ -124,6 +124,12 @@ pub fn is_name(bytes: &[u8]) -> bool {
     (1..=16).contains(&bytes.len()) && bytes.iter().all(|c| (0x20..=0x7E).contains(c))
 }
 
+/// The name of that many bytes from a place of a table on: as much of it as the table has.
+pub fn name_of(table: &[u8], at: u64, length: u64) -> Vec<u8> {
+    let within = |&(i, _): &(u64, &u8)| i.checked_sub(at).is_some_and(|k| k < length);
+    (0..).zip(table).filter(within).map(|(_, &c)| c).collect()
+}
+
 /// A line with its LF taken off: six fields, or seven with the ID's mask last.
 fn table_line(line: &[u8], at: usize) -> Option<Listed> {
     let fields: Vec<&[u8]> = line.split(|&c| c == b'\t').collect();

@@ -131,3 +131,14 @@ pub fn no_entry(words: u16, tail: u8) -> u64 {
 pub fn no_decimal(bound: u32) -> u64 {
     u64::from(bound) + 1
 }
+
+/// The first place of a byte that is at least `from`, below `to` and in the text.
+pub fn find(text: &[u8], from: u64, to: u64, mark: u8) -> Option<u64> {
+    let places = (0..).zip(text).filter(|&(at, &c)| c == mark && at >= from);
+    places.map(|(at, _)| at).min().filter(|&at| at < to)
+}
+
+/// What `find` answers where the byte is not: where it stopped to look, which is where it began if nothing was to be looked at.
+pub fn no_mark(text: &[u8], from: u64, to: u64) -> u64 {
+    to.min(text.len() as u64).max(from)
+}

@@ -798,8 +798,9 @@ pub fn device(name: &str, aim: u32, d: Device, rng: &mut Rng) -> Vec<Field> {
     match name {
         "is_name" if aim == 1 => vec![self::name(rng).into()],
         "is_name" => vec![no_name(rng).into()],
-        "judge" if aim == 13 => device_fields(&unlawful(&d, rng)),
-        "judge" => device_fields(&d),
+        "judge" | "sound_of" if aim == 13 => device_fields(&unlawful(&d, rng)),
+        "judge" | "sound_of" => device_fields(&d),
+        "name_of" => name_of(&table_with(&d, rng), aim == 1, rng),
         "judge_table" if aim == 15 => vec![bad_table(&d, rng).into()],
         "judge_table" => vec![table_with(&d, rng).into()],
         "find_device" => {
@@ -834,6 +835,38 @@ pub fn device(name: &str, aim: u32, d: Device, rng: &mut Rng) -> Vec<Field> {
         "fits" => fits(&d, aim == 1, rng),
         _ => is_image(d, aim == 1, rng),
     }
+}
+
+/// A place of a table and a length: a line's name, any other part, or one that reaches or lies past the end.
+fn name_of(table: &[u8], past: bool, rng: &mut Rng) -> Vec<Field> {
+    let mut names: Vec<_> = lines(table)
+        .expect("sound lines")
+        .into_iter()
+        .map(|l| l.name)
+        .collect();
+    let name = names.swap_remove(rng.below(names.len()));
+    let end = table.len();
+    let (at, length) = match rng.below(4) {
+        0 if past => (name.start as u64, u64::MAX - rng.below(3) as u64),
+        1 if past => (u64::MAX - rng.below(3) as u64, rng.between(1, 16) as u64),
+        2 if past => ((end + rng.below(3)) as u64, rng.between(1, 16) as u64),
+        _ if past => {
+            let at = rng.below(end);
+            (at as u64, (end - at + rng.between(1, 5)) as u64)
+        }
+        0 => {
+            let at = rng.below(end + 1);
+            (at as u64, rng.below(end - at + 1) as u64)
+        }
+        1 => {
+            let at = rng.below(end + 1);
+            (at as u64, (end - at) as u64)
+        }
+        // Nothing of it is asked, at a place where nothing is.
+        2 if rng.chance(30) => (number(64, rng), 0),
+        _ => (name.start as u64, name.len() as u64),
+    };
+    vec![table.to_vec().into(), at.into(), length.into()]
 }
 
 /// A configuration word's entry, or another one, with any masks and any numbers; often they are words.

@@ -28,6 +28,7 @@ pub fn words(name: &str, aim: u32, rng: &mut Rng) -> Vec<Field> {
         "put_byte" => put(2, 8, nothing, rng),
         "put_word" => put(4, 16, nothing, rng),
         "decimal" => decimal(nothing, rng),
+        "find" => find(nothing, rng),
         // The classes of a yes or no are the answer itself.
         _ => is_words(aim == 1, rng),
     }
@@ -180,6 +181,47 @@ fn decimal(nothing: bool, rng: &mut Rng) -> Vec<Field> {
         };
     }
     vec![text.into(), bound.into()]
+}
+
+/// A text, a part of it and a byte, which stands there at some place or at none, and often also before and behind the part. Where nothing
+/// is found the part may be none, or lie past the text's end.
+fn find(nothing: bool, rng: &mut Rng) -> Vec<Field> {
+    let length = rng.between(1, 40);
+    let mark = rng.pick(b"\t\n\x00\x7F\x80\xFF");
+    let mut text: Vec<u8> = (0..length)
+        .map(|_| match rng.below(4) {
+            0 => mark,
+            1 => mark ^ 1 << rng.below(8),
+            _ => rng.byte(),
+        })
+        .collect();
+    let at = rng.below(length);
+    let mut from = rng.below(at + 1) as u64;
+    let mut to = match rng.below(4) {
+        0 => at as u64 + 1,
+        1 => length as u64,
+        2 => (length + rng.below(5)) as u64,
+        _ => u64::MAX - rng.below(3) as u64,
+    };
+    if !nothing {
+        text[at] = mark;
+        return vec![text.into(), from.into(), to.into(), mark.into()];
+    }
+    match rng.below(6) {
+        0 => to = from,
+        1 => to = rng.below(from as usize + 1) as u64,
+        2 => from = (length + rng.below(5)) as u64,
+        3 => from = u64::MAX - rng.below(3) as u64,
+        _ => {
+            to = to.min((at + rng.below(9)) as u64);
+            for (i, c) in text.iter_mut().enumerate() {
+                if *c == mark && (from..to).contains(&(i as u64)) {
+                    *c ^= 1 << rng.below(8);
+                }
+            }
+        }
+    }
+    vec![text.into(), from.into(), to.into(), mark.into()]
 }
 
 fn is_words(yes: bool, rng: &mut Rng) -> Vec<Field> {
