@@ -1,17 +1,15 @@
 -- Laws of printing: a text stored where the one before it ends, and decimal numbers digit by digit.
-use Rattle.std.specs.Prelude.{ℕ, zero, suc, ◌+◌, ◌*◌, ◌/◌, ◌%◌, ◌≤◌, ◌<◌, ◌≡◌, refl, Bool, true, List, [], ◌∷◌, ◌++◌, ltb, length, take, drop, min}
-use Rattle.std.proofs.Common.{zero-add, sym, ap, ◌∙◌, take-append-drop, drop_of_length-le, lt-ltb, le-ltb}
+use Rattle.std.specs.Prelude.{ℕ, zero, suc, ◌+◌, ◌*◌, ◌/◌, ◌%◌, ◌≤◌, ◌<◌, ◌≡◌, refl, Bool, true, List, [], ◌∷◌, ◌++◌, ltb, length, get_or, set, drop}
+use Rattle.std.proofs.Common.{zero-add, add-one, sym, ap, ◌∙◌, drop_of_length-le, drop-cons, lt-ltb, le-ltb}
 use native.Mathlib.Omega.{arith}
 use Rattle.std.proofs.Math.Bool.{false}
 use Rattle.std.proofs.Math.ListN.{length-append}
-use Rattle.std.proofs.lemmas.List.Edits.{sets, sets-eq}
-use Rattle.std.proofs.Math.Seq.{length-take-le, length-sets}
-use Rattle.std.proofs.Math.Decide.{dec_lt}
+use Rattle.std.proofs.lemmas.List.Edits.{sets}
 use Rattle.words.specs.Choice.{pick}
 use Rattle.numerals.specs.Hex.{word_text}
 use Rattle.words.specs.LawsChoice.{pick_true, pick_false}
 use Rattle.numerals.specs.LawsHex.{length_word_text}
-use Rattle.words.specs.LawsLists.{sets_append, sets_past}
+use Rattle.words.specs.LawsLists.{sets_append}
 use Rattle.print.specs.Print.{digits, decimal_text, Prints}
 
 -- a text stored from a place on, as far as there is room, and where it ends
@@ -116,33 +114,13 @@ number_end at n mark out r out' p =
 pub hex_end : (at word mark : ℕ) (out : List ℕ) (r : ℕ) (out' : List ℕ) → Wrote at (word_text word ++ mark ∷ []) out r out' → r ≡ at + 5
 hex_end at word mark out r out' p = p.end ∙ ap (λ x. at + x) (length-append (word_text word) (mark ∷ []) ∙ ap (λ x. x + 1) (length_word_text word))
 
--- ---- a text from the start on
+-- ---- a text byte by byte
 
-module _ (text out : List ℕ) (n : ℕ) (e : n ≡ min (length text) (length out)) where
-  all_stored : sets out 0 text ≡ take n text ++ drop n out
-  all_stored = ap (sets out 0) (sym (take-append-drop n text)) ∙ (sym two ∙ (rest (dec_lt n (length text)) ∙ front))
-    where
-      long : length (take n text) ≡ n
-      long = length-take-le n text (omega arith)
+pub text_turn : (text o p : List ℕ) (i : ℕ) → i < length text → p ≡ set o i (get_or text i 0) → sets o i (drop i text) ≡ sets p (i + 1) (drop (i + 1) text)
+text_turn text o p i h e = ap (sets o i) (drop-cons text i 0 h) ∙ (rw (e, add-one))
 
-      front : sets out 0 (take n text) ≡ take n text ++ drop n out
-      front =
-          let k : 0 + n ≡ n = omega arith in
-          rw (sets-eq (take n text) out 0 (rw long (omega arith)), long, k) refl
-
-      two : sets (sets out 0 (take n text)) n (drop n text) ≡ sets out 0 (take n text ++ drop n text)
-      two =
-          let k : 0 + n ≡ n = omega arith in
-          rw (long, k) at (sets_append out 0 (take n text) (drop n text))
-
-      rest : Dec (n < length text) → sets (sets out 0 (take n text)) n (drop n text) ≡ sets out 0 (take n text)
-      rest (yes h) = sets_past (sets out 0 (take n text)) n (drop n text) (rw length-sets (omega arith))
-      rest (no h) =
-          let past : length text ≤ n = omega arith in
-          rw (drop_of_length-le text past) refl
-
-  pub text_stored : (head : List ℕ) → head ≡ take n text → Prints text out (length text) (head ++ drop n out)
-  text_stored head h = record { count = refl; stored = rw h (sym all_stored) }
+pub text_done : (text out₀ out : List ℕ) (i : ℕ) → i ≤ length text → length text ≤ i → sets out₀ 0 text ≡ sets out i (drop i text) → Prints text out₀ i out
+text_done text out₀ out i p q e = record { count = omega arith; stored = sym (e ∙ ap (sets out i) (drop_of_length-le text q)) }
 
 -- ---- how tight the promise is
 

@@ -41,12 +41,12 @@ pub fn verdict(out: &mut [u8], number: u8, address: WordAddress, count: u32) -> 
     parts::put_number(out, 0, u32::from(number), LF)
 }
 
-// A text as it stands.
-#[tactic(auto, using(crate::specs::LawsPrint::text_stored))]
+// A text as it stands. Byte by byte, so that the check sees each of them stored: of a copy as a whole it sees none that is left out.
 pub fn text(out: &mut [u8], text: &[u8]) -> usize
     ensures { Prints text.now out.old result out.new }
 {
-    let n = text.len().min(out.len());
-    out[..n].copy_from_slice(&text[..n]);
+    for i in 0..text.len() {
+        numerals::hex::put(out, i, text[i]);
+    }
     text.len()
 }
