@@ -49,12 +49,13 @@ fn read_lines(words: u16, text: &[u8], image: &mut [u16]) -> Result<(), Misread>
     ensures { LinesRead words text.now image.old (read_told result) image.new }
 {
     let mut reader = Reader::new(words);
+    let mut bytes = [0; 260];
     let mut at = 0;
     let mut number: u32 = 0;
     while at < text.len() {
         let next = line_from(text, at, number);
         let line = &text[at..next.stop];
-        if let Err(fault) = reader.take_line(line, image) {
+        if let Err(fault) = reader.take_line(line, &mut bytes, image) {
             return Err(Misread {
                 refusal: fault.refusal(),
                 line: next.line,

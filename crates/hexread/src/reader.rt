@@ -12,11 +12,10 @@ use crate::give::{Places, give_record};
 use crate::line::{Bytes, Record};
 use refusal::Refusal;
 
-// A reading: one table and one record's bytes for all lines, and where it stands.
+// A reading: one table for all lines, and where it stands. The bytes of a record are lent to it, since an array that were a part of it would be copied there.
 #[derive(Drop)]
 pub(crate) struct Reader {
     digits: Digits,
-    bytes: Bytes,
     words: u16,
     ended: bool,
     upper: u32,
@@ -28,7 +27,6 @@ impl Reader {
     {
         Reader {
             digits: Digits::new(),
-            bytes: [0; 260],
             words,
             ended: false,
             upper: 0,
@@ -43,7 +41,12 @@ impl Reader {
     }
 
     // One line: an empty one is skipped, after the end record any other is refused.
-    pub(crate) fn take_line(&mut self, line: &[u8], image: &mut [u16]) -> Result<(), Fault>
+    pub(crate) fn take_line(
+        &mut self,
+        line: &[u8],
+        bytes: &mut Bytes,
+        image: &mut [u16],
+    ) -> Result<(), Fault>
         requires { length image.old ≡ self.old.words + reading_tail }
         ensures words { self.new.words ≡ self.old.words }
         ensures taken { LineTaken self.old.words line.now (reading self.old.ended self.old.upper image.old 0) (reading self.new.ended self.new.upper image.new (number_in_line result)) result }
@@ -54,15 +57,15 @@ impl Reader {
         if self.ended {
             return Err(Fault::Line(Refusal::AfterEndRecord));
         }
-        let record = self.digits.judge_line(line, &mut self.bytes)?;
-        self.take_record(record, image)
+        let record = self.digits.judge_line(line, bytes)?;
+        self.take_record(record, bytes, image)
     }
 
     // A sound record, whatever line it was decoded from: data gives its words, the end is noted, an upper half is kept for what follows.
-    fn take_record(&mut self, sound: Record, image: &mut [u16]) -> Result<(), Fault>
+    fn take_record(&mut self, sound: Record, bytes: &Bytes, image: &mut [u16]) -> Result<(), Fault>
         requires { (self.old.ended ≡ false) × (length image.old ≡ self.old.words + reading_tail) }
         ensures words { self.new.words ≡ self.old.words }
-        ensures taken { (line : List ℕ) → Tells line self.old.bytes sound
+        ensures taken { (line : List ℕ) → Tells line bytes.now sound
             → RecordTaken self.old.words line self.old.upper image.old (reading self.new.ended self.new.upper image.new (number_in_line result)) result }
     {
         match sound {
@@ -72,7 +75,7 @@ impl Reader {
                     upper: self.upper,
                     offset,
                 };
-                give_record(places, count, &self.bytes, image)?;
+                give_record(places, count, bytes, image)?;
             }
             Record::End => self.ended = true,
             Record::Upper(half) => self.upper = half,
