@@ -68,7 +68,7 @@ impl<'a> Answer<'a> {
     pub fn bytes(&mut self, s: &[u8]) -> Result<(), Wrong> {
         self.list::<_, _, 2>(
             s,
-            |digits: &mut [u8], b| numerals::hex::put_byte(digits, 0, b),
+            |out: &mut [u8], at, b| numerals::hex::put_byte(out, at, b),
         )
     }
 
@@ -76,12 +76,12 @@ impl<'a> Answer<'a> {
     pub fn words(&mut self, s: &[u16]) -> Result<(), Wrong> {
         self.list::<_, _, 4>(
             s,
-            |digits: &mut [u8], w| numerals::hex::put_word(digits, 0, w),
+            |out: &mut [u8], at, w| numerals::hex::put_word(out, at, w),
         )
     }
 
-    // Numbers of so many digits each; a dash stands for none.
-    fn list<T: Copy, P: Fn(&mut [u8], T), const DIGITS: usize>(
+    // Numbers of so many digits each, put in place, since a list is most of a long answer; a dash stands for none.
+    fn list<T: Copy, P: Fn(&mut [u8], usize, T), const DIGITS: usize>(
         &mut self,
         numbers: &[T],
         put: P,
@@ -93,10 +93,12 @@ impl<'a> Answer<'a> {
             return self.text(b" -");
         }
         self.text(b" ")?;
-        let mut digits = [0; DIGITS];
         for n in numbers {
-            put(&mut digits, *n);
-            self.text(&digits)?;
+            if self.out.len() - self.at < DIGITS {
+                return Err(Wrong::Malformed);
+            }
+            put(&mut *self.out, self.at, *n);
+            self.at += DIGITS;
         }
         Ok(())
     }
