@@ -13,8 +13,10 @@ pub fn answer(name: &str, fields: &mut Fields, out: &mut Answer) -> Result<(), W
         "print.sum" => texts::sum(fields, out),
         "print.verdict" => texts::verdict(fields, out),
         "print.text" => texts::text(fields, out),
+        "board.find_record" => boards::find_record(fields, out),
         "board.open_record" => boards::open_record(fields, out),
         "board.open_board" => boards::open_board(fields, out),
+        "board.print_sheet" => boards::print_sheet(fields, out),
         _ => Err(Wrong::UnknownName),
     }
 }
