@@ -1,14 +1,20 @@
-// Requests on a table and a sheet, opened. What the table has for the sheet's ID is told beside a refusal too.
+// Requests on a table and a sheet, opened, and on a sheet that is printed.
 use ask::{Answer, Fields, Wrong};
-use board::MOST_READING;
-use refusal::number_in;
+use board::{MOST_READING, Unopened};
+use table::Found;
+
+pub(crate) fn find_record(fields: &mut Fields, out: &mut Answer) -> Result<(), Wrong> {
+    let table = fields.bytes()?;
+    let sheet = fields.bytes()?;
+    fields.end()?;
+    put_opened(out, board::find_record(table, sheet))
+}
 
 pub(crate) fn open_record(fields: &mut Fields, out: &mut Answer) -> Result<(), Wrong> {
     let table = fields.bytes()?;
     let sheet = fields.bytes()?;
     fields.end()?;
-    out.number(number_in(&board::open_record(table, sheet)))?;
-    put_found(out, table, sheet)
+    put_opened(out, board::open_record(table, sheet))
 }
 
 // The reading's array is filled with one word before.
@@ -18,13 +24,26 @@ pub(crate) fn open_board(fields: &mut Fields, out: &mut Answer) -> Result<(), Wr
     let fill = fields.number()?;
     fields.end()?;
     let mut reading = [fill; MOST_READING];
-    out.number(number_in(&board::open_board(table, sheet, &mut reading)))?;
-    put_found(out, table, sheet)?;
+    put_opened(out, board::open_board(table, sheet, &mut reading))?;
     out.words(&reading)
 }
 
-// What the search answers for the sheet's ID, which is 0 where line 1 has none.
-fn put_found(out: &mut Answer, table: &[u8], sheet: &[u8]) -> Result<(), Wrong> {
-    let id = sheet::read_id(sheet).unwrap_or(0);
-    out.found(table::find_device(table, id).ok())
+// The number, the record, and where its name stands.
+fn put_opened(out: &mut Answer, opened: Result<Found, Unopened>) -> Result<(), Wrong> {
+    let (number, found) = match opened {
+        Ok(found) => (0, found),
+        Err(unopened) => (unopened.refusal.number(), unopened.found),
+    };
+    out.number(number)?;
+    out.found(Some(found))
+}
+
+pub(crate) fn print_sheet(fields: &mut Fields, out: &mut Answer) -> Result<(), Wrong> {
+    let device = fields.device()?;
+    let id = fields.number()?;
+    let reading = fields.words()?;
+    let text = fields.bytes()?;
+    fields.end()?;
+    out.number(board::print_sheet(device, id, reading, text))?;
+    out.bytes(text)
 }

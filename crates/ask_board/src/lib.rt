@@ -13,8 +13,10 @@ pub fn answer(name: &[u8], fields: &mut Fields, out: &mut Answer) -> Result<(), 
         b"print.sum" => texts::sum(fields, out),
         b"print.verdict" => texts::verdict(fields, out),
         b"print.text" => texts::text(fields, out),
+        b"board.find_record" => boards::find_record(fields, out),
         b"board.open_record" => boards::open_record(fields, out),
         b"board.open_board" => boards::open_board(fields, out),
+        b"board.print_sheet" => boards::print_sheet(fields, out),
         _ => Err(Wrong::UnknownName),
     }
 }

@@ -1,13 +1,15 @@
 -- Laws of a board's record, from what the code's parts answer.
-use Rattle.std.specs.Prelude.{ℕ, ◌+◌, ◌≤◌, ◌<◌, ◌≡◌, Result, Ok, Err, IfOk, Bool, List, leb, eqb, length, drop}
+use Rattle.std.specs.Prelude.{ℕ, ◌+◌, ◌≤◌, ◌<◌, ◌≡◌, Result, Ok, Err, Option, MatchResult, Bool, List, leb, eqb, length, drop}
 use native.Mathlib.Omega.{arith}
 use Rattle.std.proofs.Math.Path.{refl, ap}
 use Rattle.std.proofs.Common.{sym, ◌∙◌}
 use Rattle.std.proofs.Math.Bool.{true, false}
 use Rattle.std.proofs.Math.ListN.{take}
-use Rattle.std.specs.Result.{result_and}
+use Rattle.std.specs.Result.{result_unwrap_or, result_err}
+use Rattle.std.specs.Option.{unwrap_or}
 use Rattle.refusal.specs.declared.Refusal.{Refusal}
-use Rattle.refusal.specs.Refusal.{number_of, number_in}
+use Rattle.refusal.specs.declared.Refusal.TheVariants.{Table}
+use Rattle.refusal.specs.Refusal.{number_of, number_in, value_in}
 use Rattle.refusal.specs.LawsRefusal.{number_of_unique, number_of_positive}
 use borrow.Author.Tests.{eq-eqb, ne_eqb, eqb-true, le-leb, lt-leb, leb-true}
 use Rattle.words.specs.Choice.{pick}
@@ -16,7 +18,7 @@ use Rattle.words.specs.LawsChoice.{pick_true, pick_false, both}
 use Rattle.device.specs.declared.Device.{Device}
 use Rattle.table.specs.declared.Found.{Found as Place}
 use Rattle.device.specs.Record.{most_words, device_up_to, device_ok}
-use Rattle.table.specs.Table.{table_ok, table_number, table_lines, has_id, found_told, refused, given, start_of, line_with, found_up_to, found_in, name_ok, name_at}
+use Rattle.table.specs.Table.{table_ok, table_lines, has_id, found_told, refused, given, start_of, line_with, found_up_to, found_in, name_ok, name_at}
 use Rattle.device.specs.LawsRecord.{rules_up_to, other_limit, more_words}
 use Rattle.device.specs.Memory.{reading_tail}
 use Rattle.table.specs.LawsTable.{found_sound}
@@ -26,7 +28,8 @@ use Rattle.sheet.specs.Sheet.{body_length, sheet_ok, words_in, sheet_number, rea
 use Rattle.sheet.specs.LawsFirstLine.{id_stands}
 use Rattle.sheet.specs.LawsSheet.{taken}
 use Rattle.sheetwrite.specs.Write.{sheet_length}
-use Rattle.board.specs.Open.{most_program, record_of, name_of, place_of, find_number, open_number}
+use Rattle.board.specs.declared.Unopened.{Unopened}
+use Rattle.board.specs.Open.{most_program, number_told, record_of, name_of, place_of, find_number, open_number}
 
 -- the number of the search by itself
 found_number : (table : List ℕ) (id : ℕ) → (found_in table id).number ≡ pick (table_ok table) (pick (has_id id (table_lines table)) 0 16) 15
@@ -40,55 +43,86 @@ found_number table id = by (table_ok table) (has_id id (table_lines table))
 
 -- ---- what the code's parts come to
 
--- the record by what the search answers
-module _ (table sheet : List ℕ) (id : ℕ) (first : id_told (Ok id) ≡ first_line sheet) (r : Result Place Refusal) (search_is : found_told r ≡ found_in table id) where
-  same : found_told r ≡ found_in table (first_line sheet).id
-  same = search_is ∙ ap (λ l. found_in table l.id) first
+-- the place of nothing
+abbrev nothing : Place
+nothing = record { device = record { id = 0; words = 0; row = 0; mask1 = 0; mask2 = 0; idmask = 0 }; name_at = 0; name_len = 0 }
+
+-- the record by what the search answers for line 1's ID, or for 0
+module _ (table sheet : List ℕ) (line : Result ℕ Refusal) (first : id_told line ≡ first_line sheet) (id : ℕ) (asked : id ≡ result_unwrap_or line 0) where
+  id_is : id ≡ (first_line sheet).id
+  id_is = asked ∙ (by line ∙ ap (λ l. l.id) first)
+    where
+      by : (a : Result ℕ Refusal) → result_unwrap_or a 0 ≡ value_in 0 a
+      by (Ok n) = refl
+      by (Err e) = refl
+
+  same : (r : Result Place Refusal) → found_told r ≡ found_in table id → found_told r ≡ found_in table (first_line sheet).id
+  same r is = is ∙ ap (found_in table) id_is
+
+  -- the place of what it answers
+  pub place_found : (f : Place) → found_told (Ok f) ≡ found_in table id → f ≡ place_of table sheet
+  unfolding record_of
+  place_found f is = λ i. let e : found_told (Ok f) ≡ found_in table (first_line sheet).id = same (Ok f) is in record { device = (e i).device; name_at = (e i).name_at; name_len = (e i).name_len }
+
+  pub place_unfound : (e : Refusal) → found_told (Err e) ≡ found_in table id → nothing ≡ place_of table sheet
+  unfolding record_of refused
+  place_unfound e is = λ i. let f : found_told (Err e) ≡ found_in table (first_line sheet).id = same (Err e) is in record { device = (f i).device; name_at = (f i).name_at; name_len = (f i).name_len }
 
   told_number : (a : Result Place Refusal) → number_in a ≡ (found_told a).number
   unfolding refused
   told_number (Ok f) = refl
   told_number (Err e) = refl
 
-  pub find_searched : number_in r ≡ find_number table sheet
-  unfolding find_number pick
-  find_searched =
-      told_number r ∙ (ap (λ x. x.number) same ∙ (found_number table (first_line sheet).id
-      ∙ ap (λ l. pick (table_ok table) (pick (eqb l.number 0) (pick (has_id (first_line sheet).id (table_lines table)) 0 16) 14) 15) first))
-
-  pub place_searched : IfOk r (λ f. f ≡ place_of table sheet)
-  unfolding record_of
-  place_searched = by r same
+  -- a malformed table before a malformed line 1 before what the search answers
+  find_is : (r : Result Place Refusal) → found_told r ≡ found_in table id → find_number table sheet ≡ pick (eqb (number_in r) 15) 15 (pick (eqb (number_in line) 0) (number_in r) 14)
+  unfolding find_number
+  find_is r is =
+      by (table_ok table) (eqb (first_line sheet).number 0) (has_id (first_line sheet).id (table_lines table))
+      ∙ ((λ i. pick (eqb (searched i) 15) 15 (pick (eqb (first_line sheet).number 0) (searched i) 14)) ∙ ap (λ l. pick (eqb (number_in r) 15) 15 (pick (eqb l.number 0) (number_in r) 14)) (sym first))
     where
-      by : (a : Result Place Refusal) → found_told a ≡ found_in table (first_line sheet).id → IfOk a (λ f. f ≡ place_of table sheet)
-      by (Ok f) e = λ i. record { device = (e i).device; name_at = (e i).name_at; name_len = (e i).name_len }
-      by (Err e) p = tt
+      searched : pick (table_ok table) (pick (has_id (first_line sheet).id (table_lines table)) 0 16) 15 ≡ number_in r
+      searched = sym (told_number r ∙ (ap (λ x. x.number) (same r is) ∙ found_number table (first_line sheet).id))
 
--- a malformed line 1 after the table
-module _ (table sheet : List ℕ) (e : Refusal) (first : id_told (Err e) ≡ first_line sheet) (t : Result Unit Refusal) (judged : number_in t ≡ table_number table) where
-  line_14 : number_of e ≡ 14
+      by : (t f h : Bool) → ◌≡◌ {A = ℕ} (pick t (pick f (pick h 0 16) 14) 15) (pick (eqb (pick t (pick h 0 16) 15) 15) 15 (pick f (pick t (pick h 0 16) 15) 14))
+      by true true true = unfold pick in refl
+      by true true false = unfold pick in refl
+      by true false true = unfold pick in refl
+      by true false false = unfold pick in refl
+      by false f h = unfold pick in refl
+
+  pub searched_found : (i : ℕ) → line ≡ Ok i → (f : Place) → found_told (Ok f) ≡ found_in table id → 0 ≡ find_number table sheet
+  searched_found i l f is = sym (find_is (Ok f) is ∙ (unfold pick in ap (λ a. pick (eqb (number_in a) 0) 0 14) l))
+
+  -- a refused line 1
+  line_14 : (e : Refusal) → line ≡ Err e → number_of e ≡ 14
   unfolding first_line
-  line_14 = by (line_ok sheet) (ap (λ l. l.number) first)
+  line_14 e l = by (line_ok sheet) (sym (ap number_in l) ∙ ap (λ x. x.number) first)
     where
       by : (b : Bool) → number_of e ≡ (pick {A = Line1} b (record { number = 0; id = id_in sheet }) (record { number = 14; id = 0 })).number → number_of e ≡ 14
       by true p = let n : 0 < number_of e = number_of_positive e in absurd (unfold pick in omega (arith, p))
       by false p = unfold pick in p
 
-  pub find_unread : number_in (result_and {U = Place} t (Err e)) ≡ find_number table sheet
-  unfolding find_number table_number
-  find_unread = by t (table_ok table) judged
+  unread : (e : Refusal) → line ≡ Err e → (n : ℕ) → (n ≡ 15 → ⊥) → pick (eqb n 15) 15 (pick (eqb (number_in line) 0) n 14) ≡ 14
+  unread e l n h =
+      pick_false _ _ _ (ne_eqb n 15 h)
+      ∙ pick_false _ _ _ (ne_eqb (number_in line) 0 (λ z. let m : number_of e ≡ 0 = sym (ap number_in l) ∙ z in omega (arith, line_14 e l)))
+
+  pub searched_unread : (e : Refusal) → line ≡ Err e → (f : Place) → found_told (Ok f) ≡ found_in table id → number_of e ≡ find_number table sheet
+  searched_unread e l f is = line_14 e l ∙ sym (find_is (Ok f) is ∙ unread e l 0 (λ z. omega (arith, z)))
+
+  pub searched_malformed : (e : Refusal) → e ≡ Table → found_told (Err e) ≡ found_in table id → number_of e ≡ find_number table sheet
+  searched_malformed e t is = sym (find_is (Err e) is ∙ (pick_true _ _ _ (eq-eqb (number_of e) 15 (ap number_of t)) ∙ sym (ap number_of t)))
+
+  -- an ID that the table has not
+  pub searched_unknown : (e : Refusal) → (e ≡ Table → ⊥) → found_told (Err e) ≡ found_in table id → (o : Option Refusal) → o ≡ result_err line → (a : Refusal) → a ≡ unwrap_or o e → number_of a ≡ find_number table sheet
+  searched_unknown e h is o from a told = by line refl (told ∙ ap (λ x. unwrap_or x e) from)
     where
-      others : ℕ
-      others = pick (has_id (first_line sheet).id (table_lines table)) 0 16
+      other : number_of e ≡ 15 → ⊥
+      other z = h (number_of_unique e Table z)
 
-      unread : pick (eqb (first_line sheet).number 0) others 14 ≡ 14
-      unread = pick_false _ _ _ (ne_eqb (first_line sheet).number 0 (λ z. let n : number_of e ≡ 0 = ap (λ l. l.number) first ∙ z in omega (arith, line_14)))
-
-      by : (a : Result Unit Refusal) (b : Bool) → number_in a ≡ pick b 0 15 → number_in (result_and {U = Place} a (Err e)) ≡ pick b (pick (eqb (first_line sheet).number 0) others 14) 15
-      by (Ok u) true p = unfold pick in line_14 ∙ sym unread
-      by (Ok u) false p = absurd (unfold pick in omega (arith, p))
-      by (Err f) true p = let n : 0 < number_of f = number_of_positive f in absurd (unfold pick in omega (arith, p))
-      by (Err f) false p = unfold pick in p
+      by : (b : Result ℕ Refusal) → line ≡ b → a ≡ unwrap_or (result_err b) e → number_of a ≡ find_number table sheet
+      by (Ok i) l p = ap number_of p ∙ sym (find_is (Err e) is ∙ (pick_false _ _ _ (ne_eqb (number_of e) 15 other) ∙ pick_true _ _ _ (eq-eqb (number_in line) 0 (ap number_in l))))
+      by (Err x) l p = ap number_of p ∙ (line_14 x l ∙ sym (find_is (Err e) is ∙ unread x l (number_of e) other))
 
 -- 17 comes after what finds the record
 open_is : (table sheet : List ℕ) → open_number table sheet ≡ pick (eqb (find_number table sheet) 0) (pick (leb (record_of table sheet).words most_program) 0 17) (find_number table sheet)
@@ -123,12 +157,12 @@ module _ (table sheet : List ℕ) where
     pub open_found : f.device.words ≤ most_program → 0 ≡ open_number table sheet
     open_found h = sym (sizes ∙ pick_true _ _ _ (le-leb f.device.words most_program h))
 
--- two answers of one number and one record are equal
-pub answer_fixed : {T : Type 0} (v : T) (a b : Result T Refusal) → number_in a ≡ number_in b → IfOk a (λ x. x ≡ v) → IfOk b (λ x. x ≡ v) → a ≡ b
+-- two answers of one number and one place are equal
+pub answer_fixed : (v : Place) (a b : Result Place Unopened) → number_told a ≡ number_told b → MatchResult a (λ f. f ≡ v) (λ u. u.found ≡ v) → MatchResult b (λ f. f ≡ v) (λ u. u.found ≡ v) → a ≡ b
 answer_fixed v (Ok x) (Ok y) n p q = ap Ok (p ∙ sym q)
-answer_fixed v (Ok x) (Err e) n p q = let z : 0 < number_of e = number_of_positive e in absurd (omega (arith, n))
-answer_fixed v (Err e) (Ok y) n p q = let z : 0 < number_of e = number_of_positive e in absurd (omega (arith, n))
-answer_fixed v (Err e) (Err f) n p q = ap Err (number_of_unique e f n)
+answer_fixed v (Ok x) (Err e) n p q = let z : 0 < number_of e.refusal = number_of_positive e.refusal in absurd (omega (arith, n))
+answer_fixed v (Err e) (Ok y) n p q = let z : 0 < number_of e.refusal = number_of_positive e.refusal in absurd (omega (arith, n))
+answer_fixed v (Err e) (Err f) n p q = λ i. Err (record { refusal = number_of_unique e.refusal f.refusal n i; found = (p ∙ sym q) i })
 
 -- ---- a device that the programs serve
 

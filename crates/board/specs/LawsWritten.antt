@@ -78,9 +78,34 @@ module _ (d : Device) (id : ℕ) (reading : List ℕ) where
         }
 
   -- a reading under a record that the programs serve is not refused
-  pub sheet_whole : device_up_to most_program d ≡ true → reading_ok d.words reading ≡ true → id < 0x4000 → printed_sheet d id reading ≡ sheet_with id d reading
+  pub printed_whole : device_up_to most_program d ≡ true → reading_ok d.words reading ≡ true → id < 0x4000 → printed_sheet d id reading ≡ sheet_with id d reading
   unfolding printed_sheet sheet_refusal pick
-  sheet_whole served ok small =
+  printed_whole served ok small =
       let own : device_up_to most_program given ≡ true = with_id_lem d id most_program served small in
       let most : sheet_length given ≤ most_sheet = served_sheet given own in
       rw (served_sound given own, ok, le-leb (sheet_length given) most_sheet most)
+
+-- and what the writer leaves of any text of that length begins with the sheet
+module _ (d : Device) (served : device_up_to most_program d ≡ true) (reading : List ℕ) (ok : reading_ok d.words reading ≡ true) (id : ℕ) (small : id < 0x4000)
+    (text : List ℕ) (long : length text ≡ 46135) (w : Written) (e : w ≡ written (with_id d id) reading text) where
+  own : device_up_to most_program (with_id d id) ≡ true
+  own = with_id_lem d id most_program served small
+
+  room : sheet_length (with_id d id) ≤ length text
+  room = let m : sheet_length (with_id d id) ≤ 46135 = served_sheet (with_id d id) own in omega arith
+
+  sheet_is : written (with_id d id) reading text ≡ record { number = 0; length = sheet_length (with_id d id) }
+  unfolding written pick
+  sheet_is = rw (served_sound (with_id d id) own, ok, le-leb (sheet_length (with_id d id)) (length text) room)
+
+  sheet_long : w.length ≡ sheet_length (with_id d id)
+  sheet_long = ap (λ x. x.length) (e ∙ sheet_is)
+
+  pub sheet_whole : (text' : List ℕ) → text' ≡ written_text (with_id d id) reading text → take w.length text' ≡ sheet_with id d reading
+  unfolding written_text
+  sheet_whole text' f =
+      let stored : text' ≡ sets text 0 (sheet_text (with_id d id) reading) = f ∙ pick_true (eqb (written (with_id d id) reading text).number 0) _ _ (eq-eqb _ 0 (ap (λ x. x.number) sheet_is)) in
+      let count : w.length ≡ length (sheet_text (with_id d id) reading) = sheet_long ∙ sym (length_sheet (with_id d id) reading) in
+      let fit : 0 + length (sheet_text (with_id d id) reading) ≤ length text = rw (zero-add, length_sheet (with_id d id) reading) room in
+      ap (take w.length) (stored ∙ sets-eq (sheet_text (with_id d id) reading) text 0 fit)
+      ∙ (take_at (sheet_text (with_id d id) reading) _ w.length (sym count) ∙ with_text d id reading)

@@ -1,5 +1,5 @@
 -- A board's table and sheet, opened: 15, 14 for the sheet's first line, 16, 17, 14 for the rest, 18, 19 ('Refusal numbers', the programs; #105; #106).
-use Rattle.std.specs.Prelude.{ℕ, List, leb, eqb}
+use Rattle.std.specs.Prelude.{ℕ, Result, Ok, Err, List, leb, eqb}
 use Rattle.std.proofs.lemmas.List.Edits.{sets}
 use Rattle.words.specs.Choice.{pick, unless}
 use Rattle.device.specs.declared.Device.{Device}
@@ -7,10 +7,17 @@ use Rattle.table.specs.declared.Found.{Found as Place}
 use Rattle.table.specs.Table.{table_ok, table_lines, has_id, found_in, name_at}
 use Rattle.sheet.specs.FirstLine.{first_line}
 use Rattle.sheet.specs.Sheet.{sheet_number, words_in}
+use Rattle.refusal.specs.Refusal.{number_of}
+use Rattle.board.specs.declared.Unopened.{Unopened}
 
 -- the most program words of a board that the programs serve
 abbrev pub most_program : ℕ
 most_program = 8192
+
+-- the number that an opening tells: 0, or that of its refusal
+abbrev pub number_told : Result Place Unopened → ℕ
+number_told (Ok _) = 0
+number_told (Err u) = number_of u.refusal
 
 -- the record that the sheet's first line names
 unfoldable pub record_of : (table sheet : List ℕ) → Device

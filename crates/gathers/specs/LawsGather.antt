@@ -22,7 +22,7 @@ use Rattle.board.specs.Open.{most_program, record_of, place_of, open_number}
 use Rattle.board.specs.Sheet.{printed_sheet}
 use Rattle.board.specs.LawsOpen.{served_most, served_sheet, opened_served}
 use Rattle.board.specs.LawsBoard.{most_reading, refusal_text, answer_text}
-use Rattle.board.specs.LawsWritten.{sheet_whole}
+use Rattle.board.specs.LawsWritten.{printed_whole}
 use Rattle.gathers.specs.Gather.{answers_in, answers_ok, gather_number, gathered, gather_text}
 use Rattle.gathers.specs.LawsAnswers.{answers_sound}
 
@@ -74,7 +74,7 @@ module _ (table sheet answers : List ℕ) where
       pub gather_sheet : true ≡ answers_ok f.device.words answers → (id : ℕ) → id_told (Ok id) ≡ first_line sheet → (words : List ℕ) → words ≡ answers_in f.device.words answers
           → printed_sheet f.device id words ≡ gathered table sheet answers
       gather_sheet h id first words e =
-          sheet_whole f.device id words (ap (λ x. device_up_to most_program x.device) is ∙ opened_served table sheet (sym z)) (ap (reading_ok f.device.words) e ∙ gather_sound h)
+          printed_whole f.device id words (ap (λ x. device_up_to most_program x.device) is ∙ opened_served table sheet (sym z)) (ap (reading_ok f.device.words) e ∙ gather_sound h)
           (rw (ap (λ l. l.id) first) (id_small sheet))
           ∙ (λ i. sheet_with (first i).id (is i).device ((e ∙ ap (λ x. answers_in x.device.words answers) is) i))
 

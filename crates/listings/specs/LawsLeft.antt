@@ -22,7 +22,7 @@ use Rattle.plan.specs.LawsPlanSource.{update_source, fresh_source}
 use Rattle.device.specs.Record.{device_up_to}
 use Rattle.board.specs.Open.{most_program}
 use Rattle.board.specs.Sheet.{printed_sheet}
-use Rattle.board.specs.LawsWritten.{sheet_whole}
+use Rattle.board.specs.LawsWritten.{printed_whole}
 use Rattle.listings.specs.LawsPlans.{plan_number, known_to}
 
 -- ---- one word
@@ -102,4 +102,4 @@ module _ (fresh : Bool) (d : Device) (image reading : List ℕ) (ok : reading_ok
 
     pub left_sheet : device_up_to most_program d ≡ true → (id : ℕ) → id < 0x4000
         → printed_sheet d id (take (d.words + reading_tail) (words ++ rest)) ≡ sheet_with id d (programmed d image (known_to fresh reading) reading)
-    left_sheet served id small = sheet_whole d id _ served left_sound small ∙ ap (sheet_with id d) (front ∙ e)
+    left_sheet served id small = printed_whole d id _ served left_sound small ∙ ap (sheet_with id d) (front ∙ e)

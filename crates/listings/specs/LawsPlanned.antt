@@ -1,5 +1,5 @@
 -- Laws of a planned stream: what is printed of a planner's answer, and that a buffer of the most bytes has room for each of the three.
-use Rattle.std.specs.Prelude.{ℕ, Result, Ok, Err, IfOk, ◌+◌, ◌*◌, ◌≤◌, ◌≡◌, true, List, take}
+use Rattle.std.specs.Prelude.{ℕ, Result, Ok, Err, IfOk, ◌+◌, ◌*◌, ◌≤◌, ◌<◌, ◌≡◌, true, List, take}
 use Rattle.std.proofs.Math.Decide.{ℕ_discrete}
 use Rattle.std.proofs.Common.{arith, sym, ◌∙◌}
 use Rattle.std.proofs.Math.Path.{ap}
@@ -20,6 +20,7 @@ use Rattle.plan.specs.LawsDemands.{plan_bytes}
 use Rattle.print.specs.Print.{refused_text}
 use Rattle.refusal.specs.declared.Refusal.{Refusal}
 use Rattle.refusal.specs.Refusal.{number_of, number_in}
+use Rattle.refusal.specs.LawsRefusal.{number_of_positive}
 use Rattle.board.specs.LawsBoard.{Holds, refusal_text, answer_text}
 use Rattle.board.specs.Open.{most_program, record_of, open_number}
 use Rattle.board.specs.LawsOpen.{served_sound, served_most, opened_served}
@@ -95,19 +96,45 @@ none_refused : (d : Device) → device_ok d ≡ true → read_back_number d ≡ 
 unfolding read_back_number
 none_refused d e = pick_true (device_ok d) 0 13 e
 
+-- a device that the programs serve, in a buffer that has room
+module _ (d : Device) (served : device_up_to most_program d ≡ true) (before : List ℕ) (long : length before ≡ most_stream) (r : Result ℕ Refusal) (out : List ℕ)
+    (p : Plans (read_back_number d) (read_back_steps d) before (planned_told r) out) where
+  pub read_back_held : (number_in r ≡ 0) × IfOk r (λ n. Holds (bytes_of (read_back_steps d)) (3 * n) out)
+  read_back_held =
+      let h = plan_held (read_back_number d) (read_back_steps d) (read_back_few d served) before long r out p in
+      (h.0 ∙ none_refused d (served_sound d served), h.1)
+
+-- as it is answered: nothing is refused
+module _ (d : Device) (served : device_up_to most_program d ≡ true) (before : List ℕ) (long : length before ≡ most_stream) (out : List ℕ) where
+  module _ (n : ℕ) (p : Plans (read_back_number d) (read_back_steps d) before (planned_told (Ok n)) out) where
+    pub read_back_within : 3 * n ≤ length out
+    read_back_within = (read_back_held d served before long (Ok n) out p).1.within
+
+    pub read_back_printed : stream_text (take (3 * n) out) ≡ stream_text (bytes_of (read_back_steps d))
+    read_back_printed = ap stream_text (read_back_held d served before long (Ok n) out p).1.whole
+
+  pub read_back_never : (e : Refusal) → Plans (read_back_number d) (read_back_steps d) before (planned_told (Err e)) out → ⊥
+  read_back_never e p = let n : 0 < number_of e = number_of_positive e in omega (arith, (read_back_held d served before long (Err e) out p).0)
+
 module _ (table sheet : List ℕ) where
   pub readback_held : 0 ≡ open_number table sheet → (d : Device) → d ≡ record_of table sheet → (before : List ℕ) → length before ≡ most_stream → (r : Result ℕ Refusal) (out : List ℕ)
       → Plans (read_back_number d) (read_back_steps d) before (planned_told r) out
       → (number_in r ≡ open_number table sheet) × IfOk r (λ n. Holds (bytes_of (read_back_steps (record_of table sheet))) (3 * n) out)
   readback_held z d e before long r out p =
       let served : device_up_to most_program d ≡ true = ap (device_up_to most_program) e ∙ opened_served table sheet (sym z) in
-      let none : read_back_number d ≡ 0 = none_refused d (served_sound d served) in
-      let h = plan_held (read_back_number d) (read_back_steps d) (read_back_few d served) before long r out p in
-      (h.0 ∙ (none ∙ z), rw e at h.1)
+      let h = read_back_held d served before long r out p in
+      (h.0 ∙ z, rw e at h.1)
 
   pub readback_found : (n : ℕ) (out : List ℕ) → 0 ≡ open_number table sheet → Holds (bytes_of (read_back_steps (record_of table sheet))) n out → stream_text (take n out) ≡ readback_text table sheet
   unfolding readback_text
   readback_found n out z h = ap stream_text h.whole ∙ answer_text (open_number table sheet) _ _ z
+
+  pub readback_served : (z : 0 ≡ open_number table sheet) → (d : Device) → d ≡ record_of table sheet → (device_up_to most_program d ≡ true) × (stream_text (bytes_of (read_back_steps d)) ≡ readback_text table sheet)
+  unfolding readback_text
+  readback_served z d e = (
+    ap (device_up_to most_program) e ∙ opened_served table sheet (sym z),
+    ap (λ x. stream_text (bytes_of (read_back_steps x))) e ∙ answer_text (open_number table sheet) _ _ z,
+  )
 
   pub readback_refused : (e : Refusal) → number_of e ≡ open_number table sheet → (k : ℕ) → k ≡ number_of e → refused_text k 0 0 ≡ readback_text table sheet
   unfolding readback_text

@@ -134,7 +134,7 @@ fn given(
 {
     let device = match board::open_board(table, sheet, reading) {
         Ok(found) => found.device,
-        Err(refusal) => return Err(at_no_line(refusal)),
+        Err(unopened) => return Err(at_no_line(unopened.refusal)),
     };
     if MOST_HEX < hex.len() {
         return Err(at_no_line(Refusal::TextTooLong));

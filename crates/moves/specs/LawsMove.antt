@@ -231,6 +231,17 @@ module _ (number : ℕ) (whole out : List ℕ) where
       let is : w ≡ moved number whole out = e ∙ sym (pick_true (eqb number 0) _ _ (eq-eqb number 0 z)) in
       (is, g ∙ ap (λ x. pick (eqb x.number 0) (sets out 0 whole) out) is)
 
+  -- no more is written than there is room for
+  pub moved_short : (w : Written) → w ≡ moved number whole out → w.length ≤ length out
+  unfolding moved
+  moved_short w e = rw e (by (eqb number 0) (leb (length whole) (length out)) (leb-true (length whole) (length out)))
+    where
+      by : (a b : Bool) → (b ≡ true → length whole ≤ length out)
+          → (pick {A = Written} a (pick b (record { number = 0; length = length whole }) (record { number = 26; length = 0 })) (record { number = number; length = 0 })).length ≤ length out
+      by true true r = unfold pick in r refl
+      by true false r = unfold pick in omega arith
+      by false b r = unfold pick in omega arith
+
   -- with room, the call answers the whole text, and it stands at the start of the buffer
   module _ (z : number ≡ 0) (room : length whole ≤ length out) where
     pub moved_is : moved number whole out ≡ record { number = 0; length = length whole }

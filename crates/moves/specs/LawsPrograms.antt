@@ -1,8 +1,9 @@
 -- Laws of the programs newsheet and oldsheet: their text from what the code's parts answer, and how long it is at most.
-use Rattle.std.specs.Prelude.{ℕ, ◌≤◌, ◌≡◌, refl, true, ◌&&◌, List, Result, Ok, Err, IfOk, leb, eqb}
+use Rattle.std.specs.Prelude.{ℕ, ◌≤◌, ◌≡◌, refl, true, ◌&&◌, List, Result, Ok, Err, IfOk, leb, eqb, replicate}
 use Rattle.std.proofs.Common.{arith, ◌∙◌, ne_eqb, leb-true}
 use Rattle.std.proofs.Math.Path.{sym, ap}
 use Rattle.std.proofs.Math.ListN.{length, take}
+use Rattle.std.proofs.lemmas.List.{length-replicate}
 use Rattle.words.specs.Choice.{unless}
 use Rattle.words.specs.LawsChoice.{pick_false, first_holds, second_holds}
 use Rattle.words.specs.LawsTests.{by_eq}
@@ -18,7 +19,7 @@ use Rattle.print.specs.Print.{refused_text}
 use Rattle.print.specs.LawsLines.{either_short}
 use Rattle.board.specs.Open.{most_program, record_of, name_of, find_number, open_number, board_number}
 use Rattle.board.specs.LawsOpen.{open_finds, opened_served, opened_named, served_most}
-use Rattle.board.specs.LawsBoard.{board_found, record_there, Holds, refusal_text, answer_text}
+use Rattle.board.specs.LawsBoard.{board_found, record_there, board_unopened, Holds, refusal_text, answer_text}
 use Rattle.moves.specs.Move.{move_number, new_of, old_of, moved, moved_text}
 use Rattle.moves.specs.Programs.{newsheet_text, oldsheet_text}
 use Rattle.moves.specs.LawsWords.{form_of}
@@ -73,6 +74,10 @@ module _ (table sheet whole : List ℕ) where
   unfolding prints_moved
   moved_all z n out h = h.whole ∙ answer_text (board_number table sheet) whole _ z
 
+  -- a board that is not opened
+  pub moved_unopened : (e : Refusal) → number_of e ≡ open_number table sheet → refused_text (number_of e) 0 0 ≡ prints_moved table sheet whole
+  moved_unopened e p = moved_told e (board_unopened table sheet e p)
+
 -- what a move answers of a board that the programs serve, in a buffer that has room
 module _ (form : Form) (table sheet : List ℕ) (z : 0 ≡ open_number table sheet) (out : List ℕ) (long : length out ≡ 46157) (r : Result ℕ Refusal)
     (is : written_told r ≡ moved (move_number table sheet) (form_of form table sheet) out) where
@@ -107,6 +112,26 @@ module _ (form : Form) (table sheet : List ℕ) (z : 0 ≡ open_number table she
             within = rw (count, stays) room;
             whole = (λ i. take (count i) (f i)) ∙ moved_front (move_number table sheet) (form_of form table sheet) out zero room;
           }
+
+-- and in a local buffer of the longest sheet
+module _ (form : Form) (table sheet : List ℕ) (z : 0 ≡ open_number table sheet) where
+  abbrev buffer : List ℕ
+  buffer = replicate 46157 0
+
+  long : length buffer ≡ 46157
+  long = length-replicate {A = ℕ} 46157 0
+
+  pub served_told : (e : Refusal) → written_told (Err e) ≡ moved (move_number table sheet) (form_of form table sheet) buffer
+      → refused_text (number_of e) 0 0 ≡ prints_moved table sheet (form_of form table sheet)
+  served_told e is = moved_told table sheet (form_of form table sheet) e (served_number form table sheet z buffer long (Err e) is)
+
+  module _ (n : ℕ) (is : written_told (Ok n) ≡ moved (move_number table sheet) (form_of form table sheet) buffer) (after : List ℕ)
+      (f : after ≡ moved_text (move_number table sheet) (form_of form table sheet) buffer) where
+    pub served_within : n ≤ length after
+    served_within = (served_text form table sheet z buffer long (Ok n) is after f).within
+
+    pub served_all : take n after ≡ prints_moved table sheet (form_of form table sheet)
+    served_all = moved_all table sheet (form_of form table sheet) (served_number form table sheet z buffer long (Ok n) is) n after (served_text form table sheet z buffer long (Ok n) is after f)
 
 -- ---- their texts are no longer
 

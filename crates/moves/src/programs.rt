@@ -1,16 +1,13 @@
 // The programs newsheet and oldsheet.
-ghost use Rattle.std.specs.Prelude.{◌≡◌, ◌≤◌, IfOk, length};
-ghost use Rattle.refusal.specs.Refusal.{number_in};
+ghost use Rattle.std.specs.Prelude.{◌≡◌, ◌≤◌};
 ghost use Rattle.print.specs.Print.{Prints};
-ghost use Rattle.board.specs.Open.{board_number};
-ghost use Rattle.board.specs.LawsBoard.{Holds};
+ghost use Rattle.board.specs.Open.{open_number};
 ghost use Rattle.moves.specs.Programs.{newsheet_text, oldsheet_text};
 ghost use Rattle.moves.specs.LawsWords.{form_of};
 ghost use Rattle.moves.specs.LawsPrograms.{prints_moved};
 
 use crate::sheets::{Form, move_to};
 use board::MOST_PROGRAM;
-use refusal::Refusal;
 
 // The longest sheet of a board that the programs serve: in the new form, with a name of 16 characters.
 const MOST_SHEET: usize = 27 + 45 * ((MOST_PROGRAM as usize) / 8) + 50;
@@ -29,25 +26,26 @@ pub fn oldsheet(table: &[u8], sheet: &[u8], out: &mut [u8]) -> usize
     print_moved(Form::Old, table, sheet, out)
 }
 
-// Prints a board's sheet in a form.
-#[tactic(auto, using(crate::specs::LawsPrograms::moved_told, crate::specs::LawsPrograms::moved_all))]
+// Prints a board's sheet in a form. A board that is too large for the programs is refused before its sheet is read.
+#[tactic(auto, using(crate::specs::LawsPrograms::moved_unopened))]
 fn print_moved(form: Form, table: &[u8], sheet: &[u8], out: &mut [u8]) -> usize
     ensures { Prints (prints_moved table.now sheet.now (form_of form table.now sheet.now)) out.old result out.new }
 {
-    let mut whole = [0u8; MOST_SHEET];
-    match move_served(form, table, sheet, &mut whole) {
-        Ok(length) => print::text(out, &whole[..length]),
-        Err(refusal) => print::refusal(out, refusal.number(), 0, 0),
+    match board::open_record(table, sheet) {
+        Ok(_) => print_served(form, table, sheet, out),
+        Err(unopened) => print::refusal(out, unopened.refusal.number(), 0, 0),
     }
 }
 
-// Writes a board's sheet in a form. A board that is too large for the programs is refused before its sheet is read.
-#[tactic(auto, using(board::specs::LawsBoard::board_unopened, crate::specs::LawsPrograms::served_number, crate::specs::LawsPrograms::served_text))]
-fn move_served(form: Form, table: &[u8], sheet: &[u8], out: &mut [u8]) -> Result<usize, Refusal>
-    requires { length out.old ≡ 46157 }
-    ensures number { number_in result ≡ board_number table.now sheet.now }
-    ensures text { IfOk result (λ n. Holds (form_of form table.now sheet.now) n out.new) }
+// Prints the sheet of a board that the programs serve.
+#[tactic(auto, using(crate::specs::LawsPrograms::served_told, crate::specs::LawsPrograms::served_all))]
+fn print_served(form: Form, table: &[u8], sheet: &[u8], out: &mut [u8]) -> usize
+    requires { 0 ≡ open_number table.now sheet.now }
+    ensures { Prints (prints_moved table.now sheet.now (form_of form table.now sheet.now)) out.old result out.new }
 {
-    board::open_record(table, sheet)?;
-    move_to(form, table, sheet, out)
+    let mut whole = [0u8; MOST_SHEET];
+    match move_to(form, table, sheet, &mut whole) {
+        Ok(length) => print::text(out, &whole[..length]),
+        Err(refusal) => print::refusal(out, refusal.number(), 0, 0),
+    }
 }

@@ -20,7 +20,7 @@ use Rattle.target.specs.declared.Stopped.{Stopped}
 use Rattle.refusal.specs.Refusal.{number_of}
 use Rattle.refusal.specs.LawsRefusal.{number_of_positive}
 use Rattle.board.specs.Sheet.{printed_sheet}
-use Rattle.board.specs.LawsWritten.{sheet_whole}
+use Rattle.board.specs.LawsWritten.{printed_whole}
 use Rattle.target.specs.Chip.{chip_of}
 use Rattle.target.specs.Model.{Run}
 use Rattle.target.specs.Step.{Target, decoded, unread, sound_cells}
@@ -194,7 +194,7 @@ module _ (d : Device) (served : device_up_to most_program d ≡ true) (reading :
   run_whole r g small rest =
       let number : 0 ≡ (played d reading stream).number = number_is d served reading ok stream cells k (Ok r) words' cells' g in
       let left : cells' ≡ (played d reading stream).target.cells = g.cells_left ∙ ap (λ x. x.target.cells) (ran_is d served reading ok stream cells k (Ok r) words' cells' g) in
-      sheet_whole d id _ served (front_sound d served reading ok stream cells k (Ok r) words' cells' g rest) small
+      printed_whole d id _ served (front_sound d served reading ok stream cells k (Ok r) words' cells' g rest) small
       ∙ (ap (sheet_with id d) (front d served reading ok stream cells k (Ok r) words' cells' g rest ∙ ap (take (d.words + reading_tail)) left)
       ∙ sym (pick_true (eqb (played d reading stream).number 0) _ _ (eq-eqb (played d reading stream).number 0 (sym number))))
 

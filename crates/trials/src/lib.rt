@@ -19,7 +19,7 @@ pub fn trial(table: &[u8], sheet: &[u8], stream: &[u8], out: &mut [u8]) -> usize
     let mut reading = [0u16; board::MOST_READING];
     let device = match board::open_board(table, sheet, &mut reading) {
         Ok(found) => found.device,
-        Err(refusal) => return print::refusal(out, refusal.number(), 0, 0),
+        Err(unopened) => return print::refusal(out, unopened.refusal.number(), 0, 0),
     };
     let mut bytes = [0u8; 3 * MOST_STEPS];
     let steps = match typed::read_stream(stream, &mut bytes) {

@@ -1,6 +1,6 @@
 //! What each program prints, from the content of its files.
 
-use crate::board::{board, record, Opened};
+use crate::board::{board, record, Opened, OPENED_MAX};
 use crate::device::Device;
 use crate::refusal::Refusal;
 use crate::sheet::Form;
@@ -39,6 +39,21 @@ pub fn stream_text(stream: &[u8]) -> Vec<u8> {
 fn sheet_like(board: &[u8], d: &Device, words: &[u16]) -> Vec<u8> {
     let first = sheet::first_line(board).expect("an opened sheet has a line 1");
     sheet::text(&Device { id: first.id, ..*d }, words)
+}
+
+/// The longest sheet of a board that the programs take: the ID's line, one for each eight words, and the last.
+const SHEET_MAX: usize = 5 + 45 * (OPENED_MAX as usize / 8) + 50;
+
+/// The sheet of a reading with an ID of its own on line 1, refused by 13 and 21 under that ID, and by 26 where it is longer
+/// than any of a board that the programs take.
+pub fn print_sheet(d: &Device, id: u16, reading: &[u16]) -> Printed {
+    let mut text = vec![0; SHEET_MAX];
+    let (number, length) = sheet::write(&Device { id, ..*d }, reading, &mut text);
+    text.truncate(length);
+    printed(match number {
+        0 => Ok((0, text)),
+        _ => Err(number.into()),
+    })
 }
 
 pub fn checksum(table: &[u8], sheet: &[u8]) -> Printed {

@@ -19,7 +19,7 @@ pub struct Opened {
 }
 
 /// The table's line that a sheet's first line fits, whatever its size: 15, 14 for that line, 16.
-fn line(text: &[u8], sheet: &[u8]) -> Result<Listed, u32> {
+pub fn line(text: &[u8], sheet: &[u8]) -> Result<Listed, u32> {
     // A malformed table is told before the sheet is looked at, whatever ID would be asked for.
     if table(text).is_none() {
         return Err(15);

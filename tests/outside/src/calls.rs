@@ -42,7 +42,8 @@ impl Call {
     /// Whether it answers a number first, 15 before all others, for the table that is its first field.
     pub fn judges_table(&self) -> bool {
         let number_first = ["device.judge_table", "device.find_device"];
-        number_first.contains(&self.name) || self.name.starts_with("board.") || self.moves()
+        let opens = self.name.starts_with("board.") && !self.takes_record();
+        number_first.contains(&self.name) || opens || self.moves()
     }
 
     /// Whether it is about a record: one that it takes, or that a move finds.
@@ -251,6 +252,12 @@ fn listed(number: u32, line: &Listed) -> Reply {
     fields.extend(device_fields(&line.device));
     fields.extend([line.name.start.into(), line.name.len().into()]);
     reply(number, fields)
+}
+
+fn find_record(f: &[Field]) -> Reply {
+    let (table, sheet) = (field::bytes(f, 0), field::bytes(f, 1));
+    let number = board::line(table, sheet).err().unwrap_or(0);
+    listed(number, &board::answered(table, sheet))
 }
 
 fn open_record(f: &[Field]) -> Reply {
@@ -1076,6 +1083,12 @@ pub static CALLS: &[Call] = &[
         own: |f| put_text(field::bytes(f, 0), field::bytes(f, 1)),
     },
     Call {
+        name: "board.find_record",
+        kinds: &[Bytes, Bytes],
+        classes: &[0, 14, 15, 16],
+        own: find_record,
+    },
+    Call {
         name: "board.open_record",
         kinds: &[Bytes, Bytes],
         classes: &[0, 14, 15, 16, 17],
@@ -1086,6 +1099,26 @@ pub static CALLS: &[Call] = &[
         kinds: &[Bytes, Bytes, Num(16)],
         classes: &[0, 14, 15, 16, 17, 18, 19],
         own: open_board,
+    },
+    Call {
+        name: "board.print_sheet",
+        kinds: &[
+            Num(16),
+            Num(16),
+            Num(16),
+            Num(16),
+            Num(16),
+            Num(16),
+            Num(16),
+            Words,
+            Bytes,
+        ],
+        classes: &[0, 13, 21, 26],
+        own: |f| {
+            let reading = field::words(f, D + 1);
+            let printed = bench::print_sheet(&device_at(f), n16(f, D), reading);
+            shown(&printed, field::bytes(f, D + 2))
+        },
     },
     Call {
         name: "bench.checksum",

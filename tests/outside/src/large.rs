@@ -555,8 +555,8 @@ fn program_cases() -> Vec<Case> {
     all
 }
 
-/// The record beside 17 is the one that is found, and the reading stays.
-fn board_cases() -> [Case; 2] {
+/// The record beside 17 is the one that is found, by itself without 17, and the reading stays.
+fn board_cases() -> [Case; 3] {
     let files: Vec<Field> = vec![
         [TINY_LINE, BIG_LINE].concat().into(),
         b"2A01\n0000".to_vec().into(),
@@ -567,9 +567,12 @@ fn board_cases() -> [Case; 2] {
     record.extend([number(25), number(3)]);
     let mut opened = files.clone();
     opened.push(number(0x5A5A));
+    let mut found = record.clone();
+    found[0] = number(0);
     let mut board = record.clone();
     board.push(vec![0x5A5Au16; 8_201].into());
     [
+        case("BIG's line 1", "board.find_record", None, files.clone(), found),
         case("BIG's line 1", "board.open_record", None, files, record),
         case("BIG's line 1", "board.open_board", None, opened, board),
     ]

@@ -118,8 +118,8 @@ pub fn board(name: &str, aim: u32, rng: &mut Rng) -> Vec<Field> {
     }
     let id = fitting(&d, rng);
     let text = with_id(&sheet::text(&d, &reading), id);
-    let alone = name == "open_record";
-    let (table, board) = if aim == 17 {
+    let alone = matches!(name, "find_record" | "open_record");
+    let (table, board) = if aim == 17 || (name == "find_record" && aim == 0 && rng.chance(20)) {
         too_large(&d, &text, rng.chance(30), rng)
     } else {
         first_files(&d, id, &text, aim, alone, rng)

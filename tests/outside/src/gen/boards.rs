@@ -1293,3 +1293,29 @@ pub fn sheet(name: &str, aim: u32, d: Device, rng: &mut Rng) -> Vec<Field> {
         }
     }
 }
+
+/// A reading that is printed as a sheet with an ID of its own on line 1; 26 is of a device that the programs do not take.
+pub fn printed_sheet(aim: u32, d: Device, rng: &mut Rng) -> Vec<Field> {
+    let mut d = d;
+    if aim == 26 || also(aim, &[13, 21], rng) {
+        d = enlarged(&d, rng);
+    }
+    let mut id = rng.word();
+    let mut reading = reading_for(&d, rng.chance(30), rng);
+    let length = room(own::text(&d, &reading).len(), rng.chance(30), rng);
+    if aim == 21 || also(aim, &[13], rng) {
+        spoil_words(&mut reading, rng);
+    }
+    if aim == 13 {
+        d = unlawful(&d, rng);
+        // The record's own ID has no say.
+        if (Device { id, ..d }).lawful() {
+            id |= 0x4000;
+        }
+    } else if rng.chance(20) {
+        d.id = number(16, rng) as u16;
+    }
+    let mut fields = device_fields(&d);
+    fields.extend([id.into(), reading.into(), lent(length, rng).into()]);
+    fields
+}

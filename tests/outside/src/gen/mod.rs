@@ -75,6 +75,7 @@ fn aimed(call: usize, aim: u32, d: Device, rng: &mut Rng) -> Vec<Field> {
         "target" => plans::target(rest, aim, d, rng),
         "plan" => plans::plan(rest, aim, d, rng),
         "print" => texts::print(rest, aim == 1, rng),
+        "board" if rest == "print_sheet" => boards::printed_sheet(aim, d, rng),
         "board" => benches::board(rest, aim, rng),
         "lent" if rest == "first_number" => texts::first_number(aim == 1, rng),
         "lent" if rest == "third_line" => texts::third_line(aim == 1, rng),
