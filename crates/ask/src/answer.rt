@@ -1,5 +1,5 @@
 // The fields of an answer, put one after another, each with the space before it.
-ghost use Rattle.std.specs.Prelude.{◌≤◌, length};
+ghost use Rattle.std.specs.Prelude.{◌<◌, ◌≤◌, length};
 
 use crate::wrong::Wrong;
 use refusal::{Refusal, number_in};
@@ -68,7 +68,7 @@ impl<'a> Answer<'a> {
     pub fn bytes(&mut self, s: &[u8]) -> Result<(), Wrong> {
         self.list::<_, _, 2>(
             s,
-            |out: &mut [u8], at, b| numerals::hex::put_byte(out, at, b),
+            |digits: &mut [u8], b| numerals::hex::put_byte(digits, 0, b),
         )
     }
 
@@ -76,31 +76,43 @@ impl<'a> Answer<'a> {
     pub fn words(&mut self, s: &[u16]) -> Result<(), Wrong> {
         self.list::<_, _, 4>(
             s,
-            |out: &mut [u8], at, w| numerals::hex::put_word(out, at, w),
+            |digits: &mut [u8], w| numerals::hex::put_word(digits, 0, w),
         )
     }
 
     // Numbers of so many digits each, put in place, since a list is most of a long answer; a dash stands for none.
-    fn list<T: Copy, P: Fn(&mut [u8], usize, T), const DIGITS: usize>(
+    fn list<T: Copy, P: Fn(&mut [u8], T), const DIGITS: usize>(
         &mut self,
         numbers: &[T],
         put: P,
     ) -> Result<(), Wrong>
-        requires few { DIGITS ≤ 4 }
+        requires some { 0 < DIGITS }
         requires callable { P.IsAlwaysCallable put }
     {
         if numbers.is_empty() {
             return self.text(b" -");
         }
         self.text(b" ")?;
-        for n in numbers {
-            if self.out.len() - self.at < DIGITS {
-                return Err(Wrong::Malformed);
-            }
-            put(&mut *self.out, self.at, *n);
-            self.at += DIGITS;
+        let Some(length) = numbers.len().checked_mul(DIGITS) else {
+            return Err(Wrong::Malformed);
+        };
+        if self.out.len() - self.at < length {
+            return Err(Wrong::Malformed);
         }
+        let end = self.at + length;
+        put_all::<_, _, DIGITS>(&mut self.out[self.at..end], numbers, put);
+        self.at = end;
         Ok(())
+    }
+}
+
+// Numbers of so many digits each, one after another.
+fn put_all<T: Copy, P: Fn(&mut [u8], T), const DIGITS: usize>(out: &mut [u8], numbers: &[T], put: P)
+    requires some { 0 < DIGITS }
+    requires callable { P.IsAlwaysCallable put }
+{
+    for (digits, n) in out.chunks_exact_mut(DIGITS).zip(numbers) {
+        put(digits, *n);
     }
 }
 
