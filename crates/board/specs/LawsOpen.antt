@@ -1,5 +1,5 @@
 -- Laws of a board's record, from what the code's parts answer.
-use Rattle.std.specs.Prelude.{ℕ, ◌+◌, ◌≤◌, ◌<◌, ◌≡◌, Result, Ok, Err, Option, MatchResult, Bool, List, leb, eqb, length, drop}
+use Rattle.std.specs.Prelude.{ℕ, ◌+◌, ◌≤◌, ◌<◌, ◌≡◌, Result, Ok, Err, Option, IfOk, MatchResult, Bool, List, leb, eqb, length, drop}
 use native.Mathlib.Omega.{arith}
 use Rattle.std.proofs.Math.Path.{refl, ap}
 use Rattle.std.proofs.Common.{sym, ◌∙◌}
@@ -157,12 +157,19 @@ module _ (table sheet : List ℕ) where
     pub open_found : f.device.words ≤ most_program → 0 ≡ open_number table sheet
     open_found h = sym (sizes ∙ pick_true _ _ _ (le-leb f.device.words most_program h))
 
--- two answers of one number and one place are equal
-pub answer_fixed : (v : Place) (a b : Result Place Unopened) → number_told a ≡ number_told b → MatchResult a (λ f. f ≡ v) (λ u. u.found ≡ v) → MatchResult b (λ f. f ≡ v) (λ u. u.found ≡ v) → a ≡ b
+-- two answers of one number and one record are equal
+pub answer_fixed : {T : Type 0} (v : T) (a b : Result T Refusal) → number_in a ≡ number_in b → IfOk a (λ x. x ≡ v) → IfOk b (λ x. x ≡ v) → a ≡ b
 answer_fixed v (Ok x) (Ok y) n p q = ap Ok (p ∙ sym q)
-answer_fixed v (Ok x) (Err e) n p q = let z : 0 < number_of e.refusal = number_of_positive e.refusal in absurd (omega (arith, n))
-answer_fixed v (Err e) (Ok y) n p q = let z : 0 < number_of e.refusal = number_of_positive e.refusal in absurd (omega (arith, n))
-answer_fixed v (Err e) (Err f) n p q = λ i. Err (record { refusal = number_of_unique e.refusal f.refusal n i; found = (p ∙ sym q) i })
+answer_fixed v (Ok x) (Err e) n p q = let z : 0 < number_of e = number_of_positive e in absurd (omega (arith, n))
+answer_fixed v (Err e) (Ok y) n p q = let z : 0 < number_of e = number_of_positive e in absurd (omega (arith, n))
+answer_fixed v (Err e) (Err f) n p q = ap Err (number_of_unique e f n)
+
+-- and so are two openings of one number and one place
+pub opened_fixed : (v : Place) (a b : Result Place Unopened) → number_told a ≡ number_told b → MatchResult a (λ f. f ≡ v) (λ u. u.found ≡ v) → MatchResult b (λ f. f ≡ v) (λ u. u.found ≡ v) → a ≡ b
+opened_fixed v (Ok x) (Ok y) n p q = ap Ok (p ∙ sym q)
+opened_fixed v (Ok x) (Err e) n p q = let z : 0 < number_of e.refusal = number_of_positive e.refusal in absurd (omega (arith, n))
+opened_fixed v (Err e) (Ok y) n p q = let z : 0 < number_of e.refusal = number_of_positive e.refusal in absurd (omega (arith, n))
+opened_fixed v (Err e) (Err f) n p q = λ i. Err (record { refusal = number_of_unique e.refusal f.refusal n i; found = (p ∙ sym q) i })
 
 -- ---- a device that the programs serve
 
