@@ -10,7 +10,7 @@ use Rattle.std.specs.Option.{unwrap_or}
 use Rattle.refusal.specs.declared.Refusal.{Refusal}
 use Rattle.refusal.specs.declared.Refusal.TheVariants.{Table}
 use Rattle.refusal.specs.Refusal.{number_of, number_in, value_in}
-use Rattle.refusal.specs.LawsRefusal.{number_of_unique, number_of_positive}
+use Rattle.refusal.specs.LawsRefusal.{number_of_unique, number_of_positive, answer_unique}
 use borrow.Author.Tests.{eq-eqb, ne_eqb, eqb-true, le-leb, lt-leb, leb-true}
 use Rattle.words.specs.Choice.{pick}
 use Rattle.words.specs.LawsTests.{by_eq}
@@ -157,14 +157,15 @@ module _ (table sheet : List ℕ) where
     pub open_found : f.device.words ≤ most_program → 0 ≡ open_number table sheet
     open_found h = sym (sizes ∙ pick_true _ _ _ (le-leb f.device.words most_program h))
 
--- two answers of one number and one record are equal
+-- two answers of one number are equal, where each has no other value than this
 pub answer_fixed : {T : Type 0} (v : T) (a b : Result T Refusal) → number_in a ≡ number_in b → IfOk a (λ x. x ≡ v) → IfOk b (λ x. x ≡ v) → a ≡ b
-answer_fixed v (Ok x) (Ok y) n p q = ap Ok (p ∙ sym q)
-answer_fixed v (Ok x) (Err e) n p q = let z : 0 < number_of e = number_of_positive e in absurd (omega (arith, n))
-answer_fixed v (Err e) (Ok y) n p q = let z : 0 < number_of e = number_of_positive e in absurd (omega (arith, n))
-answer_fixed v (Err e) (Err f) n p q = ap Err (number_of_unique e f n)
+answer_fixed {T} v a b n p q = answer_unique v a b n (told a p ∙ sym (told b q))
+  where
+    told : (r : Result T Refusal) → IfOk r (λ x. x ≡ v) → value_in v r ≡ v
+    told (Ok x) e = e
+    told (Err e) u = refl
 
--- and so are two openings of one number and one place
+-- and so are two openings of one number, each with this place
 pub opened_fixed : (v : Place) (a b : Result Place Unopened) → number_told a ≡ number_told b → MatchResult a (λ f. f ≡ v) (λ u. u.found ≡ v) → MatchResult b (λ f. f ≡ v) (λ u. u.found ≡ v) → a ≡ b
 opened_fixed v (Ok x) (Ok y) n p q = ap Ok (p ∙ sym q)
 opened_fixed v (Ok x) (Err e) n p q = let z : 0 < number_of e.refusal = number_of_positive e.refusal in absurd (omega (arith, n))
